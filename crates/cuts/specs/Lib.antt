@@ -1,0 +1,10 @@
+pub mod Below
+pub mod Cut
+pub mod Rank
+pub mod Way
+pub mod Verdict
+pub mod Computed
+pub mod Trace
+pub mod Orders
+pub mod Working
+pub mod Value
