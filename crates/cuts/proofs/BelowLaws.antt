@@ -1,11 +1,11 @@
 -- Laws of the tests, searches, sums, products and lists below a bound. In order: and, or; every; first and any; sums; products; lists; own.
 -- Assumes nothing.
-use mathlib.Core.Path.{_≡_, refl, sym, ap, ap₂, _∙_, fun-ext}
+use mathlib.Core.Path.{_≡_, refl, sym, ap, ap₂, _∙_}
 use mathlib.Core.Bool.{Bool, true, false, _&&_, _||_, cond, false≢true}
 use mathlib.Core.Logic.{_≢_, _⊎_, inl, inr, ⊎-elim}
-use mathlib.Core.List.{List, [], _∷_, _++_}
+use mathlib.Core.List.{[]}
 use Prim.Native.Nat.{ℕ, zero, suc, _+_, _*_, _≤_, _<_}
-use native.Mathlib.Nat.{eq-or-lt-of-le, le-of-suc-le-suc, not-suc-le-zero}
+use native.Mathlib.Nat.{eq-or-lt-of-le, le-of-suc-le-suc, not-suc-le-zero, mul-pos}
 use native.Mathlib.Numerals.{add-one}
 use native.Mathlib.Omega.{arith}
 use lib.Dec.{ltb}
@@ -142,6 +142,11 @@ pub productTo-first : (n : ℕ) (f : ℕ → ℕ) → productTo (suc n) f ≡ f 
 unfolding productTo
 productTo-first zero f = omega arith
 productTo-first (suc n) f = ap (λ (k : ℕ). k * f (suc n)) (productTo-first n f) ∙ omega arith
+
+pub productTo-pos : (n : ℕ) (f : ℕ → ℕ) → ((q : ℕ) → q < n → 0 < f q) → 0 < productTo n f
+unfolding productTo
+productTo-pos zero f h = omega arith
+productTo-pos (suc n) f h = mul-pos (productTo-pos n f (λ q l. h q (omega arith))) (h n (omega arith))
 
 pub productTo-more : (n : ℕ) (f : ℕ → ℕ) → productTo (n + 1) f ≡ productTo n f * f n
 unfolding productTo

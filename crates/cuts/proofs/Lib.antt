@@ -1,1 +1,15 @@
 pub mod BelowLaws
+pub mod CutLaws
+pub mod RankLaws
+pub mod WayLaws
+pub mod TabledRight
+pub mod MarksRight
+pub mod VerdictRight
+pub mod StampLaws
+pub mod StampRight
+pub mod EventLaws
+pub mod OrdersRight
+pub mod StationsRight
+pub mod DemandRight
+pub mod Settled
+pub mod PathForward

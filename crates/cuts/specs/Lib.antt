@@ -8,3 +8,4 @@ pub mod Trace
 pub mod Orders
 pub mod Working
 pub mod Value
+pub mod Examples

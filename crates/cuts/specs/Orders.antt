@@ -1,14 +1,13 @@
 -- Possible orders, in the words of demand 3, literally: lists of events, first event first. No stamp is read here and no cut.
 -- In order: events in a list; a possible order; its moments and the levels there; Poss, Def and their evidence over possible orders.
 use mathlib.Core.Path.{_≡_}
-use mathlib.Core.Logic.{_⊎_}
 use mathlib.Core.Bool.{Bool, true, _&&_, cond}
 use mathlib.Core.Option.{Option, none, some}
 use mathlib.Core.List.{List, [], _∷_, _++_, reverse}
-use Prim.Native.Nat.{ℕ, zero, suc, _+_, _<_}
+use Prim.Native.Nat.{ℕ, suc, _+_, _<_}
 use lib.Dec.{eqb}
-use Rattle.cuts.specs.Below.{own}
-use Rattle.cuts.specs.Cut.{at}
+use lib.ListN.{length}
+use Rattle.cuts.specs.Below.{tab, own}
 use Rattle.cuts.specs.Trace.{Messages, Recorded, Levels}
 
 -- event `number` of the station at place `station`
@@ -20,19 +19,23 @@ abbrev pub ev : ℕ → ℕ → Ev
 ev p e = record { station = p; number = e }
 
 -- x stands in a list
-abbrev pub Has : Ev → List Ev → Type 0
-Has x [] = ⊥
-Has x (y ∷ ys) = (y ≡ x) ⊎ Has x ys
+pub data Has (x : Ev) : List Ev → Type 0 where
+  here : {y : Ev} {ys : List Ev} → y ≡ x → Has x (y ∷ ys)
+  there : {y : Ev} {ys : List Ev} → Has x ys → Has x (y ∷ ys)
+
+-- the test of two events being one
+abbrev pub same : Ev → Ev → Bool
+same x y = eqb (x .station) (y .station) && eqb (x .number) (y .number)
 
 -- how often x stands in a list
 unfoldable pub times : Ev → List Ev → ℕ
 times x [] = 0
-times x (y ∷ ys) = cond (eqb (y .station) (x .station) && eqb (y .number) (x .number)) 1 0 + times x ys
+times x (y ∷ ys) = cond (same y x) 1 0 + times x ys
 
 -- x stands in a list before y
-abbrev pub Before : Ev → Ev → List Ev → Type 0
-Before x y [] = ⊥
-Before x y (z ∷ zs) = ((z ≡ x) × Has y zs) ⊎ Before x y zs
+pub data Before (x y : Ev) : List Ev → Type 0 where
+  now : {z : Ev} {zs : List Ev} → z ≡ x → Has y zs → Before x y (z ∷ zs)
+  later : {z : Ev} {zs : List Ev} → Before x y zs → Before x y (z ∷ zs)
 
 -- "a possible order has every recorded event once, keeps each station's order and puts no receipt before its sending"
 pub record PossibleOrder (T : Messages) (es : List Ev) : Type 0 where
@@ -55,6 +58,10 @@ latest p (x ∷ xs) = cond (eqb (x .station) p) (x .number) (latest p xs)
 -- the number of the last event of p after the events xs have happened: the first, read from the end
 abbrev pub lastOf : List Ev → ℕ → ℕ
 lastOf xs p = latest p (reverse xs)
+
+-- the counts of the n stations after the events xs
+abbrev pub countsAfter : ℕ → List Ev → List ℕ
+countsAfter n xs = tab n (lastOf xs)
 
 -- how often p stands in a list of places
 unfoldable pub often : ℕ → List ℕ → ℕ
@@ -92,7 +99,7 @@ module _ {A : Type 0} (level : Levels A) (condition : (ℕ → A) → Bool) wher
     abbrev pub PossByOrders : Option (List ℕ) → Type 0
     PossByOrders none = ¬ SomeOrderHas
     PossByOrders (some c) =
-        (es xs ys : List Ev) × PossibleOrder T es × (es ≡ xs ++ ys) × HoldsAfter xs × ((p : ℕ) → at c p ≡ lastOf xs p)
+        (es xs ys : List Ev) × PossibleOrder T es × (es ≡ xs ++ ys) × HoldsAfter xs × (countsAfter (length (T .counts)) xs ≡ c)
 
     -- an answer to Def: yes, where every possible order has such a moment; no with a path that is a possible order without one
     abbrev pub DefByOrders : Option (List ℕ) → Type 0

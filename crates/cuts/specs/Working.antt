@@ -31,6 +31,11 @@ module _ (T : Messages) where
     none-yet : Orderly []
     then-one : {x : Ev} {xs : List Ev} → Follows xs x → Orderly xs → Orderly (x ∷ xs)
 
+  -- with every recorded event
+  pub record Whole (xs : List Ev) : Type 0 where
+    pub orderly : Orderly xs
+    pub all : (p e : ℕ) → Recorded T p e → Has (ev p e) xs
+
   -- the next event of p after the cut c, of origin o, waits for nothing that is not in c
   abbrev pub ReadyBy : ℕ → List ℕ → ℕ → Type 0
   ReadyBy zero c p = Unit {0}
@@ -44,7 +49,7 @@ module _ (T : Messages) where
     nothing : Order []
     next : {p : ℕ} {way : List ℕ} → p < length (T .counts) → at (cutOf (T .counts) way) p < at (T .counts) p → Ready (cutOf (T .counts) way) p → Order way → Order (p ∷ way)
 
-  -- with every event
+  -- to the full cut
   abbrev pub Complete : List ℕ → Type 0
   Complete way = Order way × (cutOf (T .counts) way ≡ T .counts)
 
