@@ -30,6 +30,14 @@ pub or-right : (a b : Bool) → b ≡ true → (a || b) ≡ true
 or-right true b e = refl
 or-right false b e = e
 
+pub or-second : (a b : Bool) → a ≡ false → (a || b) ≡ true → b ≡ true
+or-second true b e h = absurd (false≢true (sym e))
+or-second false b e h = h
+
+pub or-if : (a b : Bool) → (a ≡ false → b ≡ true) → (a || b) ≡ true
+or-if true b h = refl
+or-if false b h = h refl
+
 -- a number below n + 1 is n or below n
 pub last-or-below : (n q : ℕ) → q < suc n → (q ≡ n) ⊎ (q < n)
 last-or-below n q l = eq-or-lt-of-le (le-of-suc-le-suc l)

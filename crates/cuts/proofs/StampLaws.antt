@@ -3,19 +3,19 @@
 -- Assumes nothing.
 use mathlib.Core.Path.{_≡_, refl}
 use mathlib.Core.Logic.{_↔_, _≢_}
-use mathlib.Core.Bool.{Bool, true, false, _||_}
+use mathlib.Core.Bool.{Bool, true, false}
 use mathlib.Core.List.{List}
 use Prim.Native.Nat.{ℕ, zero, suc, _+_, _≤_, _<_}
 use native.Mathlib.Nat.{le-refl, add-zero, add-suc}
 use native.Mathlib.Omega.{arith}
 use lib.ListN.{length}
 use lib.Dec.{leb, eqb}
-use borrow.Author.Tests.{leb-true, le-leb, eqb-true, eqb-false}
+use borrow.Author.Tests.{leb-true, le-leb, eqb-false, ne-eqb}
 use Rattle.cuts.specs.Below.{sumTo, own}
 use Rattle.cuts.specs.Cut.{at}
 use Rattle.cuts.specs.Trace.{Messages, Stamps, Formed, Stamped, wanted, Agrees, agrees}
 use Rattle.cuts.specs.Orders.{Ev, Precedes, own-next, sending, through}
-use Rattle.cuts.proofs.BelowLaws.{own-self, sumTo-lt, every-true, true-every}
+use Rattle.cuts.proofs.BelowLaws.{or-second, or-if, own-self, sumTo-lt, every-true, true-every}
 
 module _ (T : Messages) (S : Stamps) where
   abbrev m : List ℕ
@@ -26,19 +26,11 @@ module _ (T : Messages) (S : Stamps) where
 
   pub agrees-true : (c : List ℕ) → agrees T S c ≡ true → Agrees T S c
   unfolding agrees
-  agrees-true c h p q hp hq ne = go (eqb p q) refl (every-true n (λ q. eqb p q || leb (S p (at c p) q) (at c q)) (every-true n _ h p hp) q hq)
-    where
-      go : (b : Bool) → eqb p q ≡ b → (b || leb (S p (at c p) q) (at c q)) ≡ true → S p (at c p) q ≤ at c q
-      go true e x = absurd (ne (eqb-true p q e))
-      go false e x = leb-true _ _ x
+  agrees-true c h p q hp hq ne = leb-true _ _ (or-second (eqb p q) _ (ne-eqb p q ne) (every-true n _ (every-true n _ h p hp) q hq))
 
   pub true-agrees : (c : List ℕ) → Agrees T S c → agrees T S c ≡ true
   unfolding agrees
-  true-agrees c h = true-every n _ (λ p hp. true-every n _ (λ q hq. go p q hp hq (eqb p q) refl))
-    where
-      go : (p q : ℕ) → p < n → q < n → (b : Bool) → eqb p q ≡ b → (b || leb (S p (at c p) q) (at c q)) ≡ true
-      go p q hp hq true e = refl
-      go p q hp hq false e = le-leb _ _ (h p q hp hq (eqb-false p q e))
+  true-agrees c h = true-every n _ (λ p hp. true-every n _ (λ q hq. or-if (eqb p q) _ (λ e. le-leb _ _ (h p q hp hq (eqb-false p q e)))))
 
   -- the test of consistency is consistency
   pub agrees-is : (c : List ℕ) → (agrees T S c ≡ true) ↔ Agrees T S c
