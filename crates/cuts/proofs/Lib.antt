@@ -1,1 +1,3 @@
 pub mod BelowLaws
+pub mod ValueLaws
+pub mod ValueRight
