@@ -23,7 +23,7 @@ pub enum Ranked {
 }
 
 impl Cut {
-    // One event of the station forward.
+    // The cut one event of the station further on, or that there is none.
     pub fn forward(self, full: Cut, station: u8) -> Moved
         ensures { λ r. ⌜ r ≡ forwardOf full self station ⌝ }
     {
@@ -52,7 +52,7 @@ impl Cut {
         }
     }
 
-    // One event of the station back.
+    // The cut one event of the station further back, or that there is none.
     pub fn back(self, full: Cut, station: u8) -> Moved
         ensures { λ r. ⌜ r ≡ backOf full self station ⌝ }
     {
@@ -90,11 +90,11 @@ pub fn box_of(full: Cut) -> usize
         return 0;
     }
     let n = full.n as usize;
-    let most = full.counts;
+    let events = full.counts;
     let mut b: usize = 1;
     let mut p: usize = 0;
     while p < n {
-        b = held(b * (wide(most[p]) + 1));
+        b = held(b * (wide(events[p]) + 1));
         p += 1;
     }
     b
@@ -112,13 +112,13 @@ pub fn rank(c: Cut, full: Cut) -> Ranked
     }
     let n = full.n as usize;
     let counts = c.counts;
-    let most = full.counts;
+    let events = full.counts;
     let mut weight: usize = 1;
     let mut r: usize = 0;
     let mut p: usize = 0;
     while p < n {
         let x = wide(counts[p]);
-        let k = wide(most[p]) + 1;
+        let k = wide(events[p]) + 1;
         r = r + x * weight;
         weight = weight * k;
         p += 1;
@@ -136,7 +136,7 @@ fn belongs(full: Cut, c: Cut) -> bool
     if c.n != full.n {
         return false;
     }
-    within(full, c)
+    under(full, c)
 }
 
 // Whether this is the full cut of some recording.
@@ -149,11 +149,11 @@ fn is_full(full: Cut) -> bool
     if 8 < full.n {
         return false;
     }
-    within(full, full)
+    under(full, full)
 }
 
-// Whether no count of c is above the events of its station, beyond n none.
-fn within(full: Cut, c: Cut) -> bool
+// Whether no count of c is above its station's events, and none beyond n is other than 0.
+fn under(full: Cut, c: Cut) -> bool
     ensures { λ r. ⌜ r ≡ under full c ⌝ }
 {
     let counts = c.counts;

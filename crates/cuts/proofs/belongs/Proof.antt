@@ -17,14 +17,14 @@ returns c = sym (refuted _ (λ h. answered-false (c .before .is-full .ensures) (
 returns-2 : tie.Need-returns-2
 returns-2 c = sym (refuted _ (λ h. c .if2 .taken (isCut-is _ _ .0 h .same-n)))
 
-within-requires : tie.Need-within-requires
-within-requires c κs = search needs
+under-requires : tie.Need-under-requires
+under-requires c κs = search needs
 
 returns-3 : tie.Need-returns-3
 unfolding isCut
 returns-3 c =
-    rw (answered-true (c .before .before .before .before .before .is-full .ensures) (c .before .before .before .before .if1 .left), eq-eqb _ _ (c .before .if2 .left))
-    (c .within .ensures)
+    let b = c .before .before .before .before in
+    rw (answered-true (b .before .is-full .ensures) (b .if1 .left), eq-eqb _ _ (c .before .if2 .left)) (c .under .ensures)
 
 pub belongs-spec : {M : Type 1} → statement M
-belongs-spec = tie.close (tie.spec is-full-requires returns returns-2 within-requires returns-3)
+belongs-spec = tie.close (tie.spec is-full-requires returns returns-2 under-requires returns-3)

@@ -1,6 +1,6 @@
 -- After p turns b is the product of the first p factors under its ceiling; after n that is the box.
-use mathlib.Core.Path.{_≡_, refl, sym, ap, _∙_}
-use Prim.Native.Nat.{ℕ, _+_, _-_, _≤_, min}
+use mathlib.Core.Path.{_≡_, refl, sym, _∙_}
+use Prim.Native.Nat.{_+_, _-_, _≤_, min}
 use native.Mathlib.Nat.{le-antisymm}
 use native.Mathlib.Omega.{arith}
 use borrow.Author.Needs.{needs}
@@ -12,10 +12,10 @@ use Rattle.cuts.proofs.box_of.Statement.{statement}
 use Rattle.cuts.proofs.box_of.Tie as tie
 
 abbrev Inv-loop : tie.InvT-loop
-Inv-loop n most b₀ p₀ b p = (p ≤ n) × (n ≤ 8) × (b ≡ min (weight most p) 65537)
+Inv-loop n events b₀ p₀ b p = (p ≤ n) × (n ≤ 8) × (b ≡ min (weight events p) 65537)
 
 abbrev μ-loop : tie.MeasureT-loop
-μ-loop n most b₀ p₀ b p = n - p
+μ-loop n events b₀ p₀ b p = n - p
 
 is-full-requires : tie.Need-is-full-requires Inv-loop μ-loop
 is-full-requires c κs = search needs
@@ -65,8 +65,9 @@ loop-again c = (
 
 returns-2 : tie.Need-returns-2 Inv-loop μ-loop
 returns-2 c =
-    let f = isFull-is _ .0 (answered-true (c .before .before .before .before .before .is-full .ensures) (c .before .before .before .before .if1 .left)) in
-    let l = eight-counts (c .before .before .before .before .before .before .args .full) _ (c .before .before .before .before .before .before .good .0) in
+    let b = c .before .before .before .before in
+    let f = isFull-is _ .0 (answered-true (b .before .is-full .ensures) (b .if1 .left)) in
+    let l = eight-counts (b .before .before .args .full) _ (b .before .before .good .0) in
     rw (boxOf-loop _ f l) (rw (le-antisymm (c .before .loop .inv .0) (c .loop-test .left)) at (c .before .loop .inv .2))
 
 pub box-of-spec : {M : Type 1} → statement M

@@ -15,12 +15,12 @@ returns c = sym (refuted _ (λ h. omega (arith, isFull-is _ .0 h)))
 returns-2 : tie.Need-returns-2
 returns-2 c = sym (refuted _ (λ h. omega (arith, isFull-is _ .0 h)))
 
-within-requires : tie.Need-within-requires
-within-requires c κs = search needs
+under-requires : tie.Need-under-requires
+under-requires c κs = search needs
 
 returns-3 : tie.Need-returns-3
 unfolding isFull
-returns-3 c = rw (le-leb 1 _ (c .before .before .before .if1 .left), le-leb _ 8 (c .before .if2 .left)) (c .within .ensures)
+returns-3 c = rw (le-leb 1 _ (c .before .before .before .if1 .left), le-leb _ 8 (c .before .if2 .left)) (c .under .ensures)
 
 pub is-full-spec : {M : Type 1} → statement M
-is-full-spec = tie.close (tie.spec returns returns-2 within-requires returns-3)
+is-full-spec = tie.close (tie.spec returns returns-2 under-requires returns-3)

@@ -1,5 +1,5 @@
 -- After p turns r is the sum of the first p terms and w the weight of place p; no weight is above the box, so nothing wraps.
-use mathlib.Core.Path.{_≡_, refl, sym, ap, _∙_}
+use mathlib.Core.Path.{_≡_, refl, sym, ap}
 use mathlib.Core.List.{List}
 use Prim.Native.Nat.{ℕ, _+_, _-_, _*_, _≤_, _<_}
 use native.Mathlib.Nat.{le-antisymm}
@@ -14,26 +14,26 @@ use Rattle.cuts.proofs.ValueRight.{cut-answered, no-cut-answered, boxOf
 use Rattle.cuts.proofs.rank.Statement.{statement}
 use Rattle.cuts.proofs.rank.Tie as tie
 
--- what is so after p turns; 4,294,901,760 is 65,535 times 65,536, the most that a term can be
-record Turned (n : ℕ) (most counts : List ℕ) (w r p : ℕ) : Type 0 where
+-- what is so after p turns; 4,294,901,760 is 65,535 times 65,536, the events that a term can be
+record Turned (n : ℕ) (events counts : List ℕ) (w r p : ℕ) : Type 0 where
   place : p ≤ n
   stations : n ≤ 8
-  limit : weight most n ≤ 65536
-  weighed : w ≡ weight most p
-  summed : r ≡ rankTo most counts p
+  limit : weight events n ≤ 65536
+  weighed : w ≡ weight events p
+  summed : r ≡ rankTo events counts p
   small : r ≤ 4294901760 * p
 
-module _ {n : ℕ} {most counts : List ℕ} {w r p : ℕ} (t : Turned n most counts w r p) where
+module _ {n : ℕ} {events counts : List ℕ} {w r p : ℕ} (t : Turned n events counts w r p) where
   term-small : (x : ℕ) → x < 65536 → x * w ≤ 4294901760
-  term-small x h = mul-under x w 65535 65536 (omega arith) (omega (arith, weight-le most p n (t .place)))
+  term-small x h = mul-under x w 65535 65536 (omega arith) (omega (arith, weight-le events p n (t .place)))
 
-  next-weight : (k : ℕ) → k ≡ at most p → w * (k + 1) ≡ weight most (p + 1)
+  next-weight : (k : ℕ) → k ≡ at events p → w * (k + 1) ≡ weight events (p + 1)
   next-weight k e = rw (t .weighed, e, weight-more) refl
 
-  next-small : (k : ℕ) → k ≡ at most p → p < n → w * (k + 1) ≤ 65536
-  next-small k e h = omega (arith, next-weight k e, weight-le most (p + 1) n (omega arith))
+  next-small : (k : ℕ) → k ≡ at events p → p < n → w * (k + 1) ≤ 65536
+  next-small k e h = omega (arith, next-weight k e, weight-le events (p + 1) n (omega arith))
 
-  turn : (x k : ℕ) → (x ≡ at counts p) × (x < 65536) → k ≡ at most p → p < n → Turned n most counts (w * (k + 1)) (r + x * w) (p + 1)
+  turn : (x k : ℕ) → (x ≡ at counts p) × (x < 65536) → k ≡ at events p → p < n → Turned n events counts (w * (k + 1)) (r + x * w) (p + 1)
   turn x k (e, l) f h = record {
     place = omega arith;
     stations = t .stations;
@@ -44,10 +44,10 @@ module _ {n : ℕ} {most counts : List ℕ} {w r p : ℕ} (t : Turned n most cou
   }
 
 abbrev Inv-loop : tie.InvT-loop
-Inv-loop n counts most w₀ r₀ p₀ w r p = Turned n most counts w r p
+Inv-loop n counts events w₀ r₀ p₀ w r p = Turned n events counts w r p
 
 abbrev μ-loop : tie.MeasureT-loop
-μ-loop n counts most w₀ r₀ p₀ w r p = n - p
+μ-loop n counts events w₀ r₀ p₀ w r p = n - p
 
 belongs-requires : tie.Need-belongs-requires Inv-loop μ-loop
 belongs-requires c κs = search needs
@@ -67,8 +67,9 @@ cast-n c = search needs
 loop-holds : tie.Need-loop-holds Inv-loop μ-loop
 unfolding weight productTo rankTo sumTo
 loop-holds c =
-    let d = cut-answered (c .before .before .before .before .before .before .belongs .ensures) (c .before .before .before .before .before .if1 .left) in
-    let l = eight-counts (c .before .before .before .before .before .before .before .args .full) _ (c .before .before .before .before .before .before .before .good .1 .0) in
+    let b = c .before .before .before .before .before in
+    let d = cut-answered (b .before .belongs .ensures) (b .if1 .left) in
+    let l = eight-counts (b .before .before .args .full) _ (b .before .before .good .1 .0) in
     record {
       place = omega arith;
       stations = d .full .most-eight;
@@ -119,8 +120,9 @@ loop-again c = turn (c .before .before .before .loop .inv) _ _ (c .before .wide 
 
 returns-3 : tie.Need-returns-3 Inv-loop μ-loop
 returns-3 c =
-    let d = cut-answered (c .before .before .before .before .before .before .before .before .belongs .ensures) (c .before .before .before .before .before .before .before .if1 .left) in
-    let l = eight-counts (c .before .before .before .before .before .before .before .before .before .args .full) _ (c .before .before .before .before .before .before .before .before .before .good .1 .0) in
+    let b = c .before .before .before .before .before .before .before in
+    let d = cut-answered (b .before .belongs .ensures) (b .if1 .left) in
+    let l = eight-counts (b .before .before .args .full) _ (b .before .before .good .1 .0) in
     let e = le-antisymm (c .before .loop .inv .place) (c .loop-test .left) in
     rw (rankOf-loop _ _ d l (c .before .loop .inv .limit)) (ap Ranked.At (rw e at (c .before .loop .inv .summed)))
 

@@ -35,12 +35,14 @@ returns-4 c = backOf-none _ _ _ (λ h. omega (arith, back-found _ _ _ .0 h))
 
 with-count-requires : tie.Need-with-count-requires
 with-count-requires c κs =
-    let f = cut-answered (c .before .before .before .before .belongs .ensures) (c .before .before .before .if3 .left) .full in
+    let b = c .before .before .before in
+    let f = cut-answered (b .before .belongs .ensures) (b .if3 .left) .full in
     (omega arith, omega arith)
 
 returns-5 : tie.Need-returns-5
 returns-5 c =
-    let d = cut-answered (c .before .before .before .before .before .belongs .ensures) (c .before .before .before .before .if3 .left) in
+    let b = c .before .before .before .before in
+    let d = cut-answered (b .before .belongs .ensures) (b .if3 .left) in
     rw (c .with-count .ensures, c .before .before .wide .ensures .0)
     (backOf-some _ _ _ (back-found _ _ _ .1 (d, omega arith, omega arith, omega arith)))
 

@@ -1,4 +1,4 @@
--- Each turn looks at one place more, so after eight `under` has been looked at everywhere.
+-- After p turns no count below place p is above its station's events, and none beyond n is other than 0; after eight that is `under`.
 use mathlib.Core.Path.{sym}
 use Prim.Native.Nat.{ℕ, _-_, _≤_, _<_}
 use native.Mathlib.Omega.{arith}
@@ -6,9 +6,9 @@ use borrow.Author.Count.{below-more}
 use borrow.Author.Needs.{needs}
 use Rattle.cuts.specs.Cut.{at}
 use Rattle.cuts.specs.Value.{mostAt}
-use Rattle.cuts.proofs.ValueLaws.{refuted, under-is}
-use Rattle.cuts.proofs.within.Statement.{statement}
-use Rattle.cuts.proofs.within.Tie as tie
+use Rattle.cuts.proofs.ValueLaws.{refuted, under-at}
+use Rattle.cuts.proofs.under.Statement.{statement}
+use Rattle.cuts.proofs.under.Tie as tie
 
 abbrev Inv-loop : tie.InvT-loop
 Inv-loop full counts p₀ p = (p ≤ 8) × ((q : ℕ) → q < p → at counts q ≤ mostAt full q)
@@ -29,7 +29,7 @@ array-read-if1 : tie.Need-array-read-if1 Inv-loop μ-loop
 array-read-if1 c = search needs
 
 returns : tie.Need-returns Inv-loop μ-loop
-returns c = sym (refuted _ (λ h. omega (arith, under-is _ _ .0 h (c .before .before .before .loop .p) (omega arith))))
+returns c = sym (refuted _ (λ h. omega (arith, under-at _ _ .0 h (c .before .before .before .loop .p) (omega arith))))
 
 add-p : tie.Need-add-p Inv-loop μ-loop
 add-p c = search needs
@@ -41,10 +41,10 @@ loop-again : tie.Need-loop-again Inv-loop μ-loop
 loop-again c = (omega arith, below-more _ _ (c .before .before .before .loop .inv .1) (omega arith))
 
 returns-2 : tie.Need-returns-2 Inv-loop μ-loop
-returns-2 c = sym (under-is _ _ .1 (λ q l. c .before .loop .inv .1 q (omega arith)))
+returns-2 c = sym (under-at _ _ .1 (λ q l. c .before .loop .inv .1 q (omega arith)))
 
-pub within-spec : {M : Type 1} → statement M
-within-spec =
+pub under-spec : {M : Type 1} → statement M
+under-spec =
     tie.close
     (tie.spec
     Inv-loop
