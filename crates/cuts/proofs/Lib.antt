@@ -13,3 +13,5 @@ pub mod StationsRight
 pub mod DemandRight
 pub mod Settled
 pub mod PathForward
+pub mod ValueLaws
+pub mod ValueRight

@@ -1,9 +1,10 @@
 -- The cut as a value of the code: document 01, "A cut is a value of eight counts with the number of stations; counts beyond n are 0".
--- In order: full cuts and the cuts of their recording; the two steps; the box with its ceiling; the rank.
+-- In order: full cuts and the cuts of their recording, as tests and in the law's words; the two steps; the box with its ceiling; the rank.
 -- A recording is handed in as its full cut m: its n and the events of each station.
+use mathlib.Core.Path.{_≡_}
 use mathlib.Core.Bool.{Bool, true, false, _&&_, cond}
 use mathlib.Core.List.{List}
-use Prim.Native.Nat.{ℕ, _+_, _-_, min}
+use Prim.Native.Nat.{ℕ, _+_, _-_, _≤_, _<_, min}
 use lib.Dec.{leb, ltb, eqb}
 use lib.ListN.{take, set}
 use Rattle.cuts.specs.Below.{every}
@@ -33,6 +34,24 @@ isFull m = leb 1 (m .n) && leb (m .n) 8 && under m m
 unfoldable pub isCut : Cut → Cut → Bool
 isCut m c = isFull m && eqb (c .n) (m .n) && under m c
 
+-- isFull in the law's words
+pub record FullCut (m : Cut) : Type 0 where
+  -- "n from 1 to 8"
+  pub some-station : 1 ≤ m .n
+  pub most-eight : m .n ≤ 8
+  -- "counts beyond n are 0"
+  pub beyond : (p : ℕ) → p < 8 → m .n ≤ p → at (m .counts) p ≡ 0
+
+-- isCut in the law's words
+pub record CutOf (m c : Cut) : Type 0 where
+  pub full : FullCut m
+  -- not "another n"
+  pub same-n : c .n ≡ m .n
+  -- no "count above its m"
+  pub no-above : (p : ℕ) → p < m .n → at (c .counts) p ≤ at (m .counts) p
+  -- no "count beyond n that is not 0"
+  pub beyond : (p : ℕ) → p < 8 → m .n ≤ p → at (c .counts) p ≡ 0
+
 -- "the station is .. 1 to n"
 unfoldable pub isStation : Cut → ℕ → Bool
 isStation m s = leb 1 s && leb s (m .n)
@@ -42,7 +61,7 @@ abbrev pub withCount : Cut → ℕ → ℕ → Cut
 withCount c p x = record { counts = set (c .counts) p x; n = c .n }
 
 -- "a new cut or .. none"; where there is none, the cut given
-abbrev pub moved : Bool → Cut → Cut → Moved
+unfoldable pub moved : Bool → Cut → Cut → Moved
 moved true new old = record { found = true; cut = new }
 moved false new old = record { found = false; cut = old }
 

@@ -1,0 +1,60 @@
+-- After p turns no count below place p is above its station's events, and none beyond n is other than 0; after eight that is `under`.
+use mathlib.Core.Path.{sym}
+use Prim.Native.Nat.{ℕ, _-_, _≤_, _<_}
+use native.Mathlib.Omega.{arith}
+use borrow.Author.Count.{below-more}
+use borrow.Author.Needs.{needs}
+use Rattle.cuts.specs.Cut.{at}
+use Rattle.cuts.specs.Value.{mostAt}
+use Rattle.cuts.proofs.ValueLaws.{refuted, under-at}
+use Rattle.cuts.proofs.under.Statement.{statement}
+use Rattle.cuts.proofs.under.Tie as tie
+
+abbrev Inv-loop : tie.InvT-loop
+Inv-loop full counts p₀ p = (p ≤ 8) × ((q : ℕ) → q < p → at counts q ≤ mostAt full q)
+
+abbrev μ-loop : tie.MeasureT-loop
+μ-loop full counts p₀ p = 8 - p
+
+loop-holds : tie.Need-loop-holds Inv-loop μ-loop
+loop-holds c = (omega arith, λ q l. absurd (omega arith))
+
+most-requires : tie.Need-most-requires Inv-loop μ-loop
+most-requires c κs = search needs
+
+mul-if1 : tie.Need-mul-if1 Inv-loop μ-loop
+mul-if1 c = search needs
+
+array-read-if1 : tie.Need-array-read-if1 Inv-loop μ-loop
+array-read-if1 c = search needs
+
+returns : tie.Need-returns Inv-loop μ-loop
+returns c = sym (refuted _ (λ h. omega (arith, under-at _ _ .0 h (c .before .before .before .loop .p) (omega arith))))
+
+add-p : tie.Need-add-p Inv-loop μ-loop
+add-p c = search needs
+
+loop-less : tie.Need-loop-less Inv-loop μ-loop
+loop-less c = search needs
+
+loop-again : tie.Need-loop-again Inv-loop μ-loop
+loop-again c = (omega arith, below-more _ _ (c .before .before .before .loop .inv .1) (omega arith))
+
+returns-2 : tie.Need-returns-2 Inv-loop μ-loop
+returns-2 c = sym (under-at _ _ .1 (λ q l. c .before .loop .inv .1 q (omega arith)))
+
+pub under-spec : {M : Type 1} → statement M
+under-spec =
+    tie.close
+    (tie.spec
+    Inv-loop
+    μ-loop
+    loop-holds
+    most-requires
+    mul-if1
+    array-read-if1
+    returns
+    add-p
+    loop-less
+    loop-again
+    returns-2)
