@@ -1,15 +1,15 @@
 -- What the stamp rule gives of single stamps: the test of consistency says what it should; a stamp counts at least as much as the station's previous
 -- one and as the one it names, and one more of its own; so the sums of stamps grow along every message, and no receipts go round in a circle.
 -- Assumes nothing.
-use mathlib.Core.Path.{_≡_, refl}
+use mathlib.Core.Path.{_≡_}
 use mathlib.Core.Logic.{_↔_, _≢_}
-use mathlib.Core.Bool.{Bool, true, false}
+use mathlib.Core.Bool.{true}
 use mathlib.Core.List.{List}
 use Prim.Native.Nat.{ℕ, zero, suc, _+_, _≤_, _<_}
 use native.Mathlib.Nat.{le-refl, add-zero, add-suc}
 use native.Mathlib.Omega.{arith}
 use lib.ListN.{length}
-use lib.Dec.{leb, eqb}
+use lib.Dec.{eqb}
 use borrow.Author.Tests.{leb-true, le-leb, eqb-false, ne-eqb}
 use Rattle.cuts.specs.Below.{sumTo, own}
 use Rattle.cuts.specs.Cut.{at}
