@@ -1,4 +1,5 @@
--- The marks say what they have to. Assumes nothing.
+-- Every computed mark is what its sentence says, and the sentences determine it: a mark of 3 spreads by single steps from the start, and a walk back
+-- from a 3 is such a way. In order: the numbers of marks; 3 and ways; all four sentences; one mark only. Assumes nothing.
 use mathlib.Core.Path.{_≡_, refl, sym, ap, _∙_, subst, fun-ext}
 use mathlib.Core.Logic.{_⊎_, inl, inr, _↔_}
 use mathlib.Core.List.{List, [], _∷_}
@@ -138,7 +139,7 @@ module _ (L : Lattice) where
   pub three-reached : (c : List ℕ) → Within m c → (mark c ≡ 3) ↔ Reached L c
   three-reached c w = (λ e. let (a, z) = walk-way (total c) c w refl e in (walk L mark (total c) c, a, z), λ (way, a, e). rw (← e) (way-three a))
 
-  -- T1: every mark says what it has to
+  -- every mark says what it has to
   pub mark-says : (c : List ℕ) → Within m c → Says L c (mark c)
   unfolding markOf
   mark-says c w = go (L .consistent c) (L .holds c) (met (length m) c (backs c)) refl refl (value-is (markOf L) c)

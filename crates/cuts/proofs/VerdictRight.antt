@@ -1,4 +1,5 @@
--- The verdicts that the marks give are the ones asked for, and there is one such pair only. Assumes nothing.
+-- The verdicts read off the marks are the ones asked for: the first 1 in rank order is the witness, and the walk back at the lowest station gives the
+-- path that comes first. And one answer each is permitted. In order: dictionary order; the walk; Def; Poss. Assumes nothing.
 use mathlib.Core.Path.{_≡_, refl, sym, ap, ap₂, _∙_, subst, fun-ext}
 use mathlib.Core.Logic.{_⊎_, inl, inr, _↔_}
 use mathlib.Core.Option.{Option, none, some}
@@ -113,7 +114,7 @@ module _ (L : Lattice) where
       p≡ : first (leads c (λ p. looked L (back p c))) (length m) ≡ first (leads c (λ p. mark L (back p c))) (length m)
       p≡ = ap (λ (g : ℕ → ℕ). first (leads c g) (length m)) (fun-ext (λ p. looked-is (back p c) (within-back m c p w)))
 
-  -- T2: Def, with the path
+  -- Def, with its path, is what is asked
   pub def-right : DefIs L (defOf L)
   unfolding defOf
   def-right = go (eqb (looked L m) 3) refl
@@ -140,7 +141,7 @@ module _ (L : Lattice) where
   at-one : (c : List ℕ) → Within m c → Consistent L c → Holds L c → isOne L (rank m c) ≡ true
   at-one c w x y = eq-eqb _ 1 (table-says L c w .is-1 .1 (x, y))
 
-  -- T2: Poss, with the witness
+  -- Poss, with its witness, is what is asked
   pub poss-right : PossIs L (possOf L)
   unfolding possOf
   poss-right = go (ltb k (box m)) refl
