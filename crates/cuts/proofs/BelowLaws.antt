@@ -3,7 +3,7 @@
 use mathlib.Core.Path.{_≡_, refl, sym, ap, ap₂, _∙_}
 use mathlib.Core.Bool.{Bool, true, false, _&&_, _||_, cond, false≢true}
 use mathlib.Core.Logic.{_≢_, _⊎_, inl, inr, ⊎-elim}
-use mathlib.Core.List.{[]}
+use mathlib.Core.List.{List, [], _∷_, _++_, map, map-append}
 use Prim.Native.Nat.{ℕ, zero, suc, _+_, _*_, _≤_, _<_}
 use native.Mathlib.Nat.{eq-or-lt-of-le, le-of-suc-le-suc, not-suc-le-zero, mul-pos}
 use native.Mathlib.Numerals.{add-one}
@@ -173,6 +173,16 @@ getD-tab (suc n) f d p h =
     (λ e. getD-at (tab n f) (f n) [] d p (length-tab n f ∙ sym e) ∙ ap f (sym e))
     (λ l. List·getD-append (tab n f) _ d p (omega (arith, length-tab n f)) ∙ getD-tab n f d p l)
     (last-or-below n p h)
+
+pub tab-same : {A : Type 0} (n : ℕ) (f g : ℕ → A) → ((q : ℕ) → q < n → f q ≡ g q) → tab n f ≡ tab n g
+unfolding tab
+tab-same zero f g h = refl
+tab-same (suc n) f g h = ap₂ {C = List _} (λ l x. l ++ (x ∷ [])) (tab-same n f g (λ q l. h q (omega arith))) (h n (omega arith))
+
+pub map-tab : {A B : Type 0} (n : ℕ) (f : ℕ → A) (g : A → B) → map g (tab n f) ≡ tab n (λ q. g (f q))
+unfolding tab
+map-tab zero f g = refl
+map-tab (suc n) f g = map-append g (tab n f) (f n ∷ []) ∙ ap (λ (l : List _). l ++ (g (f n) ∷ [])) (map-tab n f g)
 
 pub own-self : (p : ℕ) → own p p ≡ 1
 own-self zero = refl

@@ -1,4 +1,5 @@
 pub mod BelowLaws
+pub mod TabLaws
 pub mod CutLaws
 pub mod RankLaws
 pub mod WayLaws
