@@ -1,0 +1,89 @@
+-- The tables that the reader lays have what the recording's events say, so the fault worked out of them is the first of the record's tests that fails, by
+-- `TablesRight`; and the records of every station lie in the table. In order: what the tables have; their room; a record. Assumes nothing.
+use mathlib.Core.Path.{_≡_, sym, ap, _∙_}
+use mathlib.Core.List.{List}
+use Prim.Native.Nat.{ℕ, suc, _+_, _-_, _*_, _≤_, _<_, min}
+use native.Mathlib.Omega.{arith}
+use lib.ListN.{length, length-take}
+use lib.Seq.{getD-take}
+use Rattle.cuts.specs.Cut.{at}
+use Rattle.cuts.proofs.BelowLaws.{length-tab, getD-tab}
+use Rattle.recording.specs.Recording.{Recording, countsOf}
+use Rattle.recording.specs.Form.{mAt, firstAt, originAt, numberAt, recordingOf}
+use Rattle.recording.specs.Decode.{recordsTo, stampCell, Laid}
+use Rattle.recording.specs.Fault.{faultAt, sourceOf, ReceiptRoom}
+use Rattle.recording.specs.Tables.{sourceFault}
+use Rattle.recording.specs.declared.records.Source.{Source}
+use Rattle.recording.proofs.FormLaws.{stations-read, count-read, origin-read, number-read}
+use Rattle.recording.proofs.PlaceLaws.{mAt-lt, firstAt-more, firstAt-le, firstAt-mono, firstAt-lt}
+use Rattle.recording.proofs.DecodeLaws.{eventsAt-in, recordsTo-firstAt, firsts-at}
+use Rattle.recording.proofs.DecodeRight.{stampCell-stamp}
+use Rattle.recording.proofs.TablesRight.{Tables, source-right}
+
+module _ {lead w n : ℕ} {s m firsts rows : List ℕ} (laid : Laid lead w s n m firsts rows) where
+  abbrev R : Recording
+  R = recordingOf lead w s
+
+  pub n-read : length (countsOf R) ≡ n
+  n-read = stations-read lead w s ∙ sym (laid .n-is)
+
+  pub m-laid : (p : ℕ) → p < n → at m p ≡ mAt lead w s p
+  m-laid p h = ap (λ (l : List ℕ). at l p) (laid .counts-are) ∙ getD-tab 8 _ 0 p (omega arith) ∙ eventsAt-in lead w s n p h
+
+  pub m-read : (p : ℕ) → p < n → at m p ≡ at (countsOf R) p
+  m-read p h = m-laid p h ∙ sym (count-read lead w s p (omega arith))
+
+  pub m-small : (p : ℕ) → w ≤ 9 → p < n → at m p < 512
+  m-small p hw h = omega (arith, m-laid p h, mAt-lt lead w s p hw)
+
+  pub first-laid : (p : ℕ) → p ≤ n → at firsts p ≡ firstAt lead w s p
+  first-laid p h = firsts-at lead w s n firsts (laid .firsts-are) (laid .n-most) p h
+
+  -- the table's room
+  rows-room : 8 * firstAt lead w s n ≤ length rows
+  rows-room =
+      let k = 8 * recordsTo lead w s n n in
+      let e : min k (length rows) ≡ k = sym (length-take k rows) ∙ ap length (laid .rows-are) ∙ length-tab k _ in
+      omega (arith, e, recordsTo-firstAt lead w s n n (omega arith))
+
+  row-laid : (j : ℕ) → j < 8 * firstAt lead w s n → at rows j ≡ stampCell lead w s n j
+  row-laid j h =
+      let t = 8 * recordsTo lead w s n n in
+      let l : j < t = omega (arith, recordsTo-firstAt lead w s n n (omega arith)) in
+      sym (getD-take t rows j 0 l) ∙ ap (λ (l : List ℕ). at l j) (laid .rows-are) ∙ getD-tab t _ 0 j l
+
+  -- the tables have what the recording's events say
+  laid-tables : Tables R n m firsts rows
+  laid-tables = record {
+    stations = n-read;
+    most = laid .n-most;
+    counts = m-read;
+    places = λ p e q hp he hq.
+        let k : e < mAt lead w s p = omega (arith, m-laid p hp) in
+        rw (first-laid p (omega arith), row-laid (8 * (firstAt lead w s p + e) + q) (omega (arith, firstAt-lt lead w s p e n hp k)), laid .n-is)
+        (stampCell-stamp lead w s p e (omega arith) k q (omega arith));
+  }
+
+  -- the records of every station lie in the table
+  pub record-room : (p e : ℕ) → p < n → e < mAt lead w s p → 8 * (at firsts p + e) + 8 ≤ length rows
+  record-room p e hp he = omega (arith, first-laid p (omega arith), firstAt-lt lead w s p e n hp he, rows-room)
+
+  pub record-small : (p e : ℕ) → w ≤ 9 → p < n → e < mAt lead w s p → at firsts p + e < 4096
+  record-small p e hw hp he = omega (arith, first-laid p (omega arith), firstAt-lt lead w s p e n hp he, firstAt-le lead w s n hw)
+
+  pub receipt-room : (p e : ℕ) → p < n → e < mAt lead w s p → ReceiptRoom n m firsts (length rows) p e
+  receipt-room p e hp he = record { own-room = record-room p e hp he; sender-room = λ q h. sender q h }
+    where
+      sender : (q : ℕ) → suc q ≤ n → 8 * (at firsts q + at m q) ≤ length rows
+      sender q h =
+          let d : q + 1 + (n - (q + 1)) ≡ n = omega arith in
+          omega (arith, m-laid q h, first-laid q (omega arith), firstAt-more lead w s q, rw d at (firstAt-mono lead w s (q + 1) (n - (q + 1))), rows-room)
+
+  -- a record's fault, by the kind of its origin
+  pub record-right : (p e : ℕ) → p < n → e < mAt lead w s p → (o k : ℕ) → o ≡ originAt lead w s n (at firsts p + e) → k ≡ numberAt lead w s n (at firsts p + e)
+      → (x : Source) → x ≡ sourceOf o → sourceFault n m firsts rows x k p e ≡ faultAt R p e
+  record-right p e hp he o k eo ek x h =
+      source-right laid-tables p e hp (omega (arith, m-laid p hp)) o k
+      (origin-read lead w s p e (omega arith) he ∙ sym (rw (first-laid p (omega arith), laid .n-is) at eo))
+      (number-read lead w s p e (omega arith) he ∙ sym (rw (first-laid p (omega arith), laid .n-is) at ek))
+      x h

@@ -1,0 +1,71 @@
+-- After r turns the first r numbers are the table's, and the rest is as it was.
+use mathlib.Core.Path.{_≡_, refl, _∙_}
+use mathlib.Core.List.{_++_}
+use Prim.Native.Nat.{_-_, _≤_}
+use native.Mathlib.Omega.{arith}
+use lib.ListN.{length, drop, length-set}
+use borrow.Author.Needs.{needs}
+use Rattle.cuts.specs.Below.{tab}
+use Rattle.cuts.proofs.TabLaws.{tab-none, tab-more, tab-front}
+use Rattle.recording.specs.Decode.{levelCell}
+use Rattle.recording.proofs.form.lay_levels.Statement.{statement}
+use Rattle.recording.proofs.form.lay_levels.Tie as tie
+
+abbrev Inv-loop : tie.InvT-loop
+Inv-loop lead w s n total out₀ r₀ out r = (r ≤ total) × (length out ≡ length out₀) × (out ≡ tab r (levelCell lead w s n) ++ drop r out₀)
+
+abbrev μ-loop : tie.MeasureT-loop
+μ-loop lead w s n total out₀ r₀ out r = total - r
+
+loop-holds : tie.Need-loop-holds Inv-loop μ-loop
+loop-holds c = (omega arith, refl, tab-none _ _)
+
+level-requires : tie.Need-level-requires Inv-loop μ-loop
+level-requires c κs = search needs
+
+excess-requires : tie.Need-excess-requires Inv-loop μ-loop
+excess-requires c κs = search needs
+
+mul-out : tie.Need-mul-out Inv-loop μ-loop
+mul-out c = search needs
+
+slice-write-out : tie.Need-slice-write-out Inv-loop μ-loop
+slice-write-out c = search needs
+
+add-r : tie.Need-add-r Inv-loop μ-loop
+add-r c = search needs
+
+loop-less : tie.Need-loop-less Inv-loop μ-loop
+loop-less c = search needs
+
+loop-again : tie.Need-loop-again Inv-loop μ-loop
+unfolding levelCell
+loop-again c =
+    let L = c .before .before .before .loop in (
+      omega arith,
+      simp length-set (L .inv .1),
+      rw (L .inv .2, c .excess .ensures, c .before .level .ensures .0) (tab-more (L .r) _ _ (omega arith)),
+    )
+
+same-length : tie.Need-same-length Inv-loop μ-loop
+same-length c = omega arith
+
+returns : tie.Need-returns Inv-loop μ-loop
+returns c = c .before .loop .inv .2 ∙ tab-front _ _ _ _ (c .before .loop .inv .0) (c .loop-test .left)
+
+pub lay-levels-spec : {M : Type 1} → statement M
+lay-levels-spec =
+    tie.close
+    (tie.spec
+    Inv-loop
+    μ-loop
+    loop-holds
+    level-requires
+    excess-requires
+    mul-out
+    slice-write-out
+    add-r
+    loop-less
+    loop-again
+    same-length
+    returns)

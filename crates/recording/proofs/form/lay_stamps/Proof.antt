@@ -1,0 +1,70 @@
+-- After j turns the first j numbers are the table's, and the rest is as it was.
+use mathlib.Core.Path.{_≡_, refl, _∙_}
+use mathlib.Core.List.{_++_}
+use Prim.Native.Nat.{_-_, _*_, _≤_}
+use native.Mathlib.Omega.{arith}
+use lib.ListN.{length, drop, length-set}
+use borrow.Author.Needs.{needs}
+use Rattle.cuts.specs.Below.{tab}
+use Rattle.cuts.proofs.TabLaws.{tab-none, tab-more, tab-front}
+use Rattle.recording.specs.Decode.{stampCell}
+use Rattle.recording.proofs.form.lay_stamps.Statement.{statement}
+use Rattle.recording.proofs.form.lay_stamps.Tie as tie
+
+abbrev Inv-loop : tie.InvT-loop
+Inv-loop lead w s n total out₀ end j₀ out j = (j ≤ 8 * total) × (length out ≡ length out₀) × (out ≡ tab j (stampCell lead w s n) ++ drop j out₀)
+
+abbrev μ-loop : tie.MeasureT-loop
+μ-loop lead w s n total out₀ end j₀ out j = 8 * total - j
+
+mul-end : tie.Need-mul-end Inv-loop μ-loop
+mul-end c = search needs
+
+loop-holds : tie.Need-loop-holds Inv-loop μ-loop
+loop-holds c = (omega arith, refl, tab-none _ _)
+
+stamp-cell-requires : tie.Need-stamp-cell-requires Inv-loop μ-loop
+stamp-cell-requires c κs = search needs
+
+mul-out : tie.Need-mul-out Inv-loop μ-loop
+mul-out c = search needs
+
+slice-write-out : tie.Need-slice-write-out Inv-loop μ-loop
+slice-write-out c = search needs
+
+add-j : tie.Need-add-j Inv-loop μ-loop
+add-j c = search needs
+
+loop-less : tie.Need-loop-less Inv-loop μ-loop
+loop-less c = search needs
+
+loop-again : tie.Need-loop-again Inv-loop μ-loop
+loop-again c =
+    let L = c .before .before .loop in (
+      omega arith,
+      simp length-set (L .inv .1),
+      rw (L .inv .2, c .stamp-cell .ensures) (tab-more (L .j) _ _ (omega arith)),
+    )
+
+same-length : tie.Need-same-length Inv-loop μ-loop
+same-length c = omega arith
+
+returns : tie.Need-returns Inv-loop μ-loop
+returns c = c .before .loop .inv .2 ∙ tab-front _ _ _ _ (c .before .loop .inv .0) (c .loop-test .left)
+
+pub lay-stamps-spec : {M : Type 1} → statement M
+lay-stamps-spec =
+    tie.close
+    (tie.spec
+    Inv-loop
+    μ-loop
+    mul-end
+    loop-holds
+    stamp-cell-requires
+    mul-out
+    slice-write-out
+    add-j
+    loop-less
+    loop-again
+    same-length
+    returns)

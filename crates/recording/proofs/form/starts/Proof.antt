@@ -1,0 +1,59 @@
+-- After p turns the first p places hold their stations' start levels.
+use mathlib.Core.Path.{_≡_, refl, _∙_}
+use mathlib.Core.List.{_++_}
+use Prim.Native.Nat.{_-_, _≤_}
+use native.Mathlib.Omega.{arith}
+use lib.ListN.{drop}
+use borrow.Author.Needs.{needs}
+use Rattle.cuts.specs.Below.{tab}
+use Rattle.cuts.proofs.TabLaws.{tab-none, tab-more, tab-full}
+use Rattle.recording.specs.Decode.{startCell}
+use Rattle.recording.proofs.form.starts.Statement.{statement}
+use Rattle.recording.proofs.form.starts.Tie as tie
+
+abbrev Inv-loop : tie.InvT-loop
+Inv-loop lead w s n l₀ p₀ l p = (p ≤ 8) × (l ≡ tab p (startCell lead w s n) ++ drop p l₀)
+
+abbrev μ-loop : tie.MeasureT-loop
+μ-loop lead w s n l₀ p₀ l p = 8 - p
+
+loop-holds : tie.Need-loop-holds Inv-loop μ-loop
+loop-holds c = (omega arith, tab-none _ _)
+
+start-requires : tie.Need-start-requires Inv-loop μ-loop
+start-requires c κs = search needs
+
+mul-l : tie.Need-mul-l Inv-loop μ-loop
+mul-l c = search needs
+
+array-write-l : tie.Need-array-write-l Inv-loop μ-loop
+array-write-l c = search needs
+
+add-p : tie.Need-add-p Inv-loop μ-loop
+add-p c = search needs
+
+loop-less : tie.Need-loop-less Inv-loop μ-loop
+loop-less c = search needs
+
+loop-again : tie.Need-loop-again Inv-loop μ-loop
+loop-again c =
+    let L = c .before .before .loop in
+    (omega arith, rw (L .inv .1, c .start .ensures) (tab-more (L .p) _ _ (omega arith)))
+
+returns : tie.Need-returns Inv-loop μ-loop
+returns c = c .before .loop .inv .1 ∙ tab-full _ 8 _ _ (c .before .loop .inv .0) (c .loop-test .left) refl
+
+pub starts-spec : {M : Type 1} → statement M
+starts-spec =
+    tie.close
+    (tie.spec
+    Inv-loop
+    μ-loop
+    loop-holds
+    start-requires
+    mul-l
+    array-write-l
+    add-p
+    loop-less
+    loop-again
+    returns)

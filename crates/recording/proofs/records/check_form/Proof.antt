@@ -1,0 +1,20 @@
+-- The rows are lent a table of zeros; the reply is that of the checks.
+use Prim.Native.Nat.{ℕ}
+use borrow.Author.Needs.{needs}
+use lib.ListN.{length-replicate}
+use Rattle.recording.proofs.records.check_form.Statement.{statement}
+use Rattle.recording.proofs.records.check_form.Tie as tie
+
+slice-aggregate-check-rows : tie.Need-slice-aggregate-check-rows
+slice-aggregate-check-rows c = search needs
+
+check-rows-requires : tie.Need-check-rows-requires
+check-rows-requires c κs =
+    let (a, b, d, e) = c .before .before .pre in
+    (a, b, d, e, length-replicate {A = ℕ} 32704 0)
+
+returns : tie.Need-returns
+returns c = c .before .check-rows .ensures .reply
+
+pub check-form-spec : {M : Type 1} → statement M
+check-form-spec = tie.close (tie.spec slice-aggregate-check-rows check-rows-requires returns)

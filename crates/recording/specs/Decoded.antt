@@ -1,0 +1,34 @@
+-- The checks and the flat tables in one: what `decode` answers, and the rooms afterwards.
+use mathlib.Core.Path.{_≡_}
+use mathlib.Core.Bool.{Bool, true, false, _&&_}
+use mathlib.Core.List.{List}
+use Prim.Native.Nat.{ℕ, _*_}
+use lib.ListN.{length, take}
+use Rattle.cuts.specs.Below.{tab}
+use Rattle.recording.specs.Form.{nAt, firstAt}
+use Rattle.recording.specs.Check.{checkedOf}
+use Rattle.recording.specs.Decode.{stampCell, stampsFit, stampsIn, levelsFit, levelsIn}
+use Rattle.recording.specs.declared.Checked.{Checked}
+use Rattle.recording.specs.declared.Decoded.{Decoded}
+
+-- the reply of the checks, and where they accept the table of stamps in front of the rows
+pub record CheckedRows (lead w : ℕ) (s : List ℕ) (r : Checked) (rows : List ℕ) : Type 0 where
+  pub reply : r ≡ checkedOf lead w s
+  pub table : r ≡ Checked.Accepted → take (8 * firstAt lead w s (nAt lead s)) rows ≡ tab (8 * firstAt lead w s (nAt lead s)) (stampCell lead w s (nAt lead s))
+
+-- the refusal of the checks; else whether the rooms have the tables
+abbrev pub decodedBy : Checked → Bool → Decoded
+decodedBy (Checked.Refused x) fits = Decoded.Refused x
+decodedBy Checked.Accepted true = Decoded.Done
+decodedBy Checked.Accepted false = Decoded.Short
+
+-- a room with its table where that is done, else as before
+abbrev pub roomBy : Decoded → List ℕ → List ℕ → List ℕ
+roomBy Decoded.Done new old = new
+roomBy Decoded.Short new old = old
+roomBy (Decoded.Refused x) new old = old
+
+pub record Decodes (lead w : ℕ) (s stamps levels : List ℕ) (r : Decoded) (stamps′ levels′ : List ℕ) : Type 0 where
+  pub answer : r ≡ decodedBy (checkedOf lead w s) (stampsFit lead w s (length stamps) && levelsFit lead w s (length levels))
+  pub stamps-after : stamps′ ≡ roomBy r (stampsIn lead w s stamps) stamps
+  pub levels-after : levels′ ≡ roomBy r (levelsIn lead w s levels) levels

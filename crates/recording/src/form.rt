@@ -1,0 +1,239 @@
+// Where the fields of a packed recording stand, and what they hold: over the bits that lead up to the stations' parts and the width w of a count.
+ghost use mathlib.Core.Path.{_≡_};
+ghost use mathlib.Core.List.{_++_};
+ghost use Prim.Native.Nat.{_+_, _*_, _≤_, _<_};
+ghost use lib.ListN.{length, take, drop};
+ghost use Rattle.cuts.specs.Below.{tab};
+ghost use Rattle.bits.specs.Bits.{field};
+ghost use Rattle.recording.specs.Form.{stationBit, recordBit, bytesFor, nAt, mAt, firstAt, originAt, numberAt, levelAt, countAt};
+ghost use Rattle.recording.specs.Decode.{eventsAt, recordsTo, startCell, stampCell, levelCell};
+
+// The bit where the part of the station at place p begins.
+pub fn station_bit(lead: usize, w: usize, p: usize) -> usize
+    requires { ⌜ (lead ≤ 8) × (w ≤ 9) × (p ≤ 15) ⌝ }
+    ensures { λ r. ⌜ (r ≡ stationBit lead w p) × (r ≤ 323) ⌝ }
+{
+    lead + (w + 12) * p
+}
+
+// The bit where record r begins; with T for r, where the recording ends.
+pub fn record_bit(lead: usize, w: usize, n: usize, r: usize) -> usize
+    requires { ⌜ (lead ≤ 8) × (w ≤ 9) × (n ≤ 8) × (r ≤ 4096) ⌝ }
+    ensures { λ b. ⌜ (b ≡ recordBit lead w n r) × (b ≤ 400000) ⌝ }
+{
+    station_bit(lead, w, n) + (4 + w + 12 + w * n) * r
+}
+
+// Whole bytes for a number of bits.
+pub fn bytes_for(bits: usize) -> usize
+    requires { ⌜ bits ≤ 400000 ⌝ }
+    ensures { λ r. ⌜ (r ≡ bytesFor bits) × (r ≤ 50001) ⌝ }
+{
+    (bits + 7) / 8
+}
+
+// n.
+pub fn stations(lead: usize, s: &[u8]) -> usize
+    requires { ⌜ (4 ≤ lead) × (lead ≤ 8) ⌝ }
+    ensures { λ r. ⌜ (r ≡ nAt lead (now (s .entry))) × (r < 16) ⌝ }
+{
+    wide(bits::peek(s, lead - 4, 4))
+}
+
+// m of the station at place p.
+pub fn events(lead: usize, w: usize, s: &[u8], p: usize) -> u16
+    requires { ⌜ (lead ≤ 8) × (w ≤ 9) × (p ≤ 15) ⌝ }
+    ensures { λ r. ⌜ (r ≡ mAt lead w (now (s .entry)) p) × (r < 512) ⌝ }
+{
+    bits::peek(s, station_bit(lead, w, p), w)
+}
+
+// m of the station at place p, 0 beyond n.
+pub fn events_within(lead: usize, w: usize, s: &[u8], n: usize, p: usize) -> u16
+    requires { ⌜ (lead ≤ 8) × (w ≤ 9) × (p ≤ 15) ⌝ }
+    ensures { λ r. ⌜ (r ≡ eventsAt lead w (now (s .entry)) n p) × (r < 512) ⌝ }
+{
+    if p < n {
+        return events(lead, w, s, p);
+    }
+    0
+}
+
+// m of each station, 0 beyond n.
+pub fn counts(lead: usize, w: usize, s: &[u8], n: usize) -> [u16; 8]
+    requires { ⌜ (lead ≤ 8) × (w ≤ 9) ⌝ }
+    ensures { λ r. ⌜ r ≡ tab 8 (eventsAt lead w (now (s .entry)) n) ⌝ }
+{
+    let mut m = [0u16; 8];
+    let mut p: usize = 0;
+    while p < 8 {
+        m[p] = events_within(lead, w, s, n, p);
+        p += 1;
+    }
+    m
+}
+
+// The records before those of each station; the last is T.
+pub fn firsts(lead: usize, w: usize, s: &[u8], n: usize) -> [usize; 9]
+    requires { ⌜ (lead ≤ 8) × (w ≤ 9) ⌝ }
+    ensures { λ r. ⌜ r ≡ tab 9 (recordsTo lead w (now (s .entry)) n) ⌝ }
+{
+    let mut f = [0usize; 9];
+    let mut before: usize = 0;
+    let mut p: usize = 0;
+    while p < 9 {
+        f[p] = before;
+        before += wide(events_within(lead, w, s, n, p));
+        p += 1;
+    }
+    f
+}
+
+// T.
+pub fn total(lead: usize, w: usize, s: &[u8], n: usize) -> usize
+    requires { ⌜ (lead ≤ 8) × (w ≤ 9) × (n ≤ 8) ⌝ }
+    ensures { λ r. ⌜ (r ≡ firstAt lead w (now (s .entry)) n) × (r ≤ 4088) ⌝ }
+{
+    let mut t: usize = 0;
+    let mut p: usize = 0;
+    while p < n {
+        t += wide(events(lead, w, s, p));
+        p += 1;
+    }
+    t
+}
+
+// The excess number of the start level of the station at place p, 0 beyond n.
+pub fn start(lead: usize, w: usize, s: &[u8], n: usize, p: usize) -> u16
+    requires { ⌜ (lead ≤ 8) × (w ≤ 9) × (p ≤ 15) ⌝ }
+    ensures { λ r. ⌜ r ≡ startCell lead w (now (s .entry)) n p ⌝ }
+{
+    if p < n {
+        return levels::excess(start_bits(lead, w, s, p));
+    }
+    0
+}
+
+// The 12 bits of the start level of the station at place p.
+pub fn start_bits(lead: usize, w: usize, s: &[u8], p: usize) -> u16
+    requires { ⌜ (lead ≤ 8) × (w ≤ 9) × (p ≤ 15) ⌝ }
+    ensures { λ r. ⌜ (r ≡ field (now (s .entry)) (stationBit lead w p + w) 12) × (r < 4096) ⌝ }
+{
+    bits::peek(s, station_bit(lead, w, p) + w, 12)
+}
+
+// The excess number of each station's start level, 0 beyond n.
+pub fn starts(lead: usize, w: usize, s: &[u8], n: usize) -> [u16; 8]
+    requires { ⌜ (lead ≤ 8) × (w ≤ 9) ⌝ }
+    ensures { λ r. ⌜ r ≡ tab 8 (startCell lead w (now (s .entry)) n) ⌝ }
+{
+    let mut l = [0u16; 8];
+    let mut p: usize = 0;
+    while p < 8 {
+        l[p] = start(lead, w, s, n, p);
+        p += 1;
+    }
+    l
+}
+
+// The origin of record r.
+pub fn origin(lead: usize, w: usize, s: &[u8], n: usize, r: usize) -> u8
+    requires { ⌜ (lead ≤ 8) × (w ≤ 9) × (n ≤ 8) × (r ≤ 4096) ⌝ }
+    ensures { λ o. ⌜ (o ≡ originAt lead w (now (s .entry)) n r) × (o < 16) ⌝ }
+{
+    (bits::peek(s, record_bit(lead, w, n, r), 4) % 16) as u8
+}
+
+// The sender's number of record r.
+pub fn number(lead: usize, w: usize, s: &[u8], n: usize, r: usize) -> u16
+    requires { ⌜ (lead ≤ 8) × (w ≤ 9) × (n ≤ 8) × (r ≤ 4096) ⌝ }
+    ensures { λ k. ⌜ (k ≡ numberAt lead w (now (s .entry)) n r) × (k < 512) ⌝ }
+{
+    bits::peek(s, record_bit(lead, w, n, r) + 4, w)
+}
+
+// The 12 bits of the level of record r.
+pub fn level(lead: usize, w: usize, s: &[u8], n: usize, r: usize) -> u16
+    requires { ⌜ (lead ≤ 8) × (w ≤ 9) × (n ≤ 8) × (r ≤ 4096) ⌝ }
+    ensures { λ l. ⌜ (l ≡ levelAt lead w (now (s .entry)) n r) × (l < 4096) ⌝ }
+{
+    bits::peek(s, record_bit(lead, w, n, r) + 4 + w, 12)
+}
+
+// Count q of the stamp of record r.
+pub fn count(lead: usize, w: usize, s: &[u8], n: usize, r: usize, q: usize) -> u16
+    requires { ⌜ (lead ≤ 8) × (w ≤ 9) × (n ≤ 8) × (r ≤ 4096) × (q ≤ 8) ⌝ }
+    ensures { λ c. ⌜ (c ≡ countAt lead w (now (s .entry)) n r q) × (c < 512) ⌝ }
+{
+    bits::peek(s, record_bit(lead, w, n, r) + 16 + w + w * q, w)
+}
+
+// The stamp of record r, 0 in the places beyond n.
+pub fn stamp(lead: usize, w: usize, s: &[u8], n: usize, r: usize) -> [u16; 8]
+    requires { ⌜ (lead ≤ 8) × (w ≤ 9) × (n ≤ 8) × (r < 4096) ⌝ }
+    ensures { λ t. ⌜ t ≡ tab 8 (λ q. stampCell lead w (now (s .entry)) n (8 * r + q)) ⌝ }
+{
+    let mut t = [0u16; 8];
+    let mut q: usize = 0;
+    while q < 8 {
+        t[q] = stamp_cell(lead, w, s, n, 8 * r + q);
+        q += 1;
+    }
+    t
+}
+
+// Number j of the table of stamps.
+pub fn stamp_cell(lead: usize, w: usize, s: &[u8], n: usize, j: usize) -> u16
+    requires { ⌜ (lead ≤ 8) × (w ≤ 9) × (n ≤ 8) × (j ≤ 32768) ⌝ }
+    ensures { λ c. ⌜ c ≡ stampCell lead w (now (s .entry)) n j ⌝ }
+{
+    let q = j % 8;
+    if q < n {
+        return count(lead, w, s, n, j / 8, q);
+    }
+    0
+}
+
+// The table of stamps into the front of `out`.
+pub fn lay_stamps(lead: usize, w: usize, s: &[u8], n: usize, total: usize, out: &mut [u16])
+    requires { ⌜ (lead ≤ 8) × (w ≤ 9) × (n ≤ 8) × (total ≤ 4088) × (8 * total ≤ length (now out)) ⌝ }
+    ensures { λ _. ⌜ now (out .exit) ≡ tab (8 * total) (stampCell lead w (now (s .entry)) n) ++ drop (8 * total) (now (out .entry)) ⌝ }
+{
+    let end = 8 * total;
+    let mut j: usize = 0;
+    while j < end {
+        out[j] = stamp_cell(lead, w, s, n, j);
+        j += 1;
+    }
+}
+
+// The table of levels into the front of `out`.
+pub fn lay_levels(lead: usize, w: usize, s: &[u8], n: usize, total: usize, out: &mut [u16])
+    requires { ⌜ (lead ≤ 8) × (w ≤ 9) × (n ≤ 8) × (total ≤ 4088) × (total ≤ length (now out)) ⌝ }
+    ensures { λ _. ⌜ now (out .exit) ≡ tab total (levelCell lead w (now (s .entry)) n) ++ drop total (now (out .entry)) ⌝ }
+{
+    let mut r: usize = 0;
+    while r < total {
+        out[r] = levels::excess(level(lead, w, s, n, r));
+        r += 1;
+    }
+}
+
+// The first k numbers of one table into the front of another.
+pub fn copy(from: &[u16], k: usize, to: &mut [u16])
+    requires { ⌜ (k ≤ length (now from)) × (k ≤ length (now to)) ⌝ }
+    ensures { λ _. ⌜ now (to .exit) ≡ take k (now (from .entry)) ++ drop k (now (to .entry)) ⌝ }
+{
+    let mut i: usize = 0;
+    while i < k {
+        to[i] = from[i];
+        i += 1;
+    }
+}
+
+// A number as a usize, with its bound.
+pub fn wide(x: u16) -> usize
+    ensures { λ r. ⌜ (r ≡ x) × (r < 65536) ⌝ }
+{
+    x as usize
+}
