@@ -1,0 +1,63 @@
+-- Laws of what a station adds to the sum that decides. In order: the eight windows of a condition; a window's test; what a station adds; the asked ones.
+-- Assumes nothing.
+use mathlib.Core.Path.{_≡_, refl, sym, ap, _∙_}
+use mathlib.Core.Bool.{true, false, _&&_, cond}
+use mathlib.Core.List.{List}
+use Prim.Native.Nat.{ℕ, _+_, _≤_}
+use native.Mathlib.Omega.{arith}
+use lib.Dec.{leb}
+use lib.ListN.{length, length-map, List·getD-eq-default}
+use mir.Val.{Val}
+use denote.Laws.{Is}
+use denote.Struct.Declared.{row}
+use Rattle.levels.specs.Level.{levelOf}
+use Rattle.levels.proofs.LevelLaws.{sub-le}
+use Rattle.condition.specs.Condition.{boundOf, between, lies, windowAt, noWindow}
+use Rattle.condition.specs.Weigh.{weighBy, weighOf}
+use Rattle.condition.specs.declared.Window.{Window}
+use Rattle.condition.specs.declared.Kind.{Kind}
+use Rattle.condition.specs.declared.Condition.{Condition}
+use Rattle.condition.proofs.Condition.{the-type}
+use Rattle.condition.proofs.FieldLaws.{leb-add}
+
+-- a condition that is passed by value has eight windows
+pub eight-windows : (c : Condition) (vs : List Val) → Is (row the-type) c vs → length (c .windows) ≡ 8
+eight-windows c vs g = sym (length-map (c .windows) _) ∙ g .1 .1 .1 .0 .1 .0 .1
+
+-- no station beyond the eighth is asked
+pub unasked-beyond : (c : Condition) (p : ℕ) → length (c .windows) ≡ 8 → 8 ≤ p → windowAt c p .asked ≡ false
+unasked-beyond c p e h = ap (λ (w : Window). w .asked) (List·getD-eq-default (c .windows) noWindow (omega arith))
+
+-- a window's ends and a level, as excess numbers
+pub lies-excess : (w : Window) (x : ℕ) → lies w (levelOf x) ≡ (leb (w .low) (x + 30720) && leb (x + 30720) (w .high))
+unfolding lies between boundOf levelOf
+lies-excess w x =
+    let e : x + 32768 ≡ x + 30720 + 2048 = omega arith in
+    rw (sub-le (w .low) 32768 x 2048, sub-le x 2048 (w .high) 32768, e, leb-add (w .low) (x + 30720) 2048, leb-add (x + 30720) (w .high) 2048) refl
+
+-- what a station adds, for a condition of kind k
+module _ (c : Condition) (p x : ℕ) where
+  unaskedBy : (k : Kind) → windowAt c p .asked ≡ false → weighBy k c p x ≡ 0
+  unfolding weighBy
+  unaskedBy Kind.Together e = rw e refl
+  unaskedBy (Kind.AtLeast k) e = rw e refl
+  unaskedBy (Kind.Sum low high) e = rw e refl
+
+  -- an unasked station adds nothing
+  pub weigh-unasked : windowAt c p .asked ≡ false → weighOf c p x ≡ 0
+  unfolding weighOf
+  weigh-unasked e = unaskedBy (c .kind) e
+
+  -- an asked one adds 1 where its level lies in its window
+  pub weigh-together : c .kind ≡ Kind.Together → windowAt c p .asked ≡ true → weighOf c p x ≡ cond (lies (windowAt c p) (levelOf x)) 1 0
+  unfolding weighOf weighBy
+  weigh-together k e = rw (k, e) refl
+
+  pub weigh-atLeast : {n : ℕ} → c .kind ≡ Kind.AtLeast n → windowAt c p .asked ≡ true → weighOf c p x ≡ cond (lies (windowAt c p) (levelOf x)) 1 0
+  unfolding weighOf weighBy
+  weigh-atLeast k e = rw (k, e) refl
+
+  -- and its level for Sum
+  pub weigh-sum : {low high : ℕ} → c .kind ≡ Kind.Sum low high → windowAt c p .asked ≡ true → weighOf c p x ≡ x
+  unfolding weighOf weighBy
+  weigh-sum k e = rw (k, e) refl
