@@ -1,0 +1,66 @@
+-- After i turns the sum is the length of the first i numbers, at most 6 bytes each; a turn adds one more.
+use mathlib.Core.Path.{_≡_, refl}
+use Prim.Native.Nat.{_-_, _*_, _≤_}
+use native.Mathlib.Omega.{arith}
+use lib.ListN.{length, take}
+use lib.Seq.{take-all}
+use borrow.Author.Needs.{needs}
+use Rattle.text.specs.Text.{numbers}
+use Rattle.text.proofs.DecimalLaws.{length-numbers-more}
+use Rattle.text.proofs.numbers_length.Statement.{statement}
+use Rattle.text.proofs.numbers_length.Tie as tie
+
+abbrev Inv-loop : tie.InvT-loop
+Inv-loop values sum₀ i₀ sum i = (i ≤ length values) × (sum ≡ length (numbers (take i values))) × (sum ≤ 6 * i)
+
+abbrev μ-loop : tie.MeasureT-loop
+μ-loop values sum₀ i₀ sum i = length values - i
+
+loop-holds : tie.Need-loop-holds Inv-loop μ-loop
+unfolding numbers
+loop-holds c = (omega arith, refl, omega arith)
+
+mul-number-length : tie.Need-mul-number-length Inv-loop μ-loop
+mul-number-length c = search needs
+
+shared-slice-read-number-length : tie.Need-shared-slice-read-number-length Inv-loop μ-loop
+shared-slice-read-number-length c = search needs
+
+number-length-requires : tie.Need-number-length-requires Inv-loop μ-loop
+number-length-requires c κs = search needs
+
+add-sum : tie.Need-add-sum Inv-loop μ-loop
+add-sum c = search needs
+
+add-i : tie.Need-add-i Inv-loop μ-loop
+add-i c = search needs
+
+loop-less : tie.Need-loop-less Inv-loop μ-loop
+loop-less c = search needs
+
+loop-again : tie.Need-loop-again Inv-loop μ-loop
+loop-again c =
+    let I = c .before .before in
+    let e = length-numbers-more (I .before .before .before .args .values .now) (I .before .loop .i) (I .loop-test .taken) in
+    (omega arith, omega arith, omega arith)
+
+returns : tie.Need-returns Inv-loop μ-loop
+returns c =
+    let e = take-all (c .before .loop .i) (c .before .before .before .args .values .now) (c .loop-test .left) in
+    (rw e at (c .before .loop .inv .1), omega arith)
+
+pub numbers-length-spec : {M : Type 1} → statement M
+numbers-length-spec =
+    tie.close
+    (tie.spec
+    Inv-loop
+    μ-loop
+    loop-holds
+    mul-number-length
+    shared-slice-read-number-length
+    number-length-requires
+    add-sum
+    add-i
+    loop-less
+    loop-again
+    returns)
