@@ -116,6 +116,10 @@ pub orElse-accepted : (a b : Checked) → orElse a b ≡ Checked.Accepted → (a
 orElse-accepted Checked.Accepted b h = (refl, h)
 orElse-accepted (Checked.Refused x) b h = absurd (accepted-not (sym h))
 
+pub orElse-assoc : (a b c : Checked) → orElse a (orElse b c) ≡ orElse (orElse a b) c
+orElse-assoc Checked.Accepted b c = refl
+orElse-assoc (Checked.Refused x) b c = refl
+
 pub scan-none : (f : ℕ → Checked) → scanTo 0 f ≡ Checked.Accepted
 unfolding scanTo
 scan-none f = refl
@@ -128,6 +132,11 @@ pub scan-all : (f : ℕ → Checked) (n : ℕ) → ((j : ℕ) → j < n → f j 
 unfolding scanTo
 scan-all f zero h = refl
 scan-all f (suc n) h = rw (scan-all f n (λ j l. h j (omega arith))) (h n (omega arith))
+
+pub scan-same : (n : ℕ) (f h : ℕ → Checked) → ((j : ℕ) → j < n → f j ≡ h j) → scanTo n f ≡ scanTo n h
+unfolding scanTo
+scan-same zero f h e = refl
+scan-same (suc n) f h e = rw (scan-same n f h (λ j l. e j (omega arith)), e n (omega arith)) refl
 
 pub scan-accepted : (f : ℕ → Checked) (n : ℕ) → scanTo n f ≡ Checked.Accepted → (j : ℕ) → j < n → f j ≡ Checked.Accepted
 unfolding scanTo

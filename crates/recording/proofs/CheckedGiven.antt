@@ -18,7 +18,7 @@ use Rattle.recording.specs.Write.{Given, firstGiven, recordingGiven, giv
 use Rattle.recording.specs.Tables.{wholeFault, checkedLists}
 use Rattle.recording.specs.declared.Refusal.{Refusal}
 use Rattle.recording.specs.declared.Checked.{Checked}
-use Rattle.recording.proofs.CheckLaws.{Pass, no-test, and-then, Numbered, no-number, and-number, pass-fault, fault-pass, fault-here, atWhole-0, atWhole-fault, atWhole-accepted, orElse-accepted}
+use Rattle.recording.proofs.CheckLaws.{Pass, no-test, and-then, Numbered, no-number, and-number, pass-fault, fault-pass, fault-here, atWhole-0, atWhole-fault, atWhole-accepted, orElse-accepted, orElse-assoc}
 
 -- what the tests before the records say
 pub record Whole (g : Given) : Type 0 where
@@ -63,10 +63,6 @@ lists-records g k v e h ev = rw (← e, h, atWhole-0) ev
 pub lists-most : (g : Given) (v : Checked) → v ≡ checkedLists g → v ≡ Checked.Accepted → g .n ≤ 8
 unfolding checkedLists
 lists-most g v e h = whole-says g (atWhole-accepted _ (orElse-accepted _ _ (sym e ∙ h) .0)) .most
-
-orElse-assoc : (a b c : Checked) → orElse a (orElse b c) ≡ orElse (orElse a b) c
-orElse-assoc Checked.Accepted b c = refl
-orElse-assoc (Checked.Refused x) b c = refl
 
 module _ (lead w : ℕ) (g : Given) (room : ℕ) where
   room-fault : neededGiven lead w g ≤ room → faultOf (test 13 (leb (neededGiven lead w g) room) ∷ []) ≡ 0

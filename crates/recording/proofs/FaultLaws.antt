@@ -1,5 +1,5 @@
 -- Laws of a record's fault as the code works it out of flat tables: each way through the code is one law.
--- In order: records and stations; the origin's kinds; places of stamps; one stamp; a local step; a receipt. Assumes nothing.
+-- In order: records and stations; the origin's kinds; places of stamps; one stamp; a local step; a receipt; any record. Assumes nothing.
 use mathlib.Core.Path.{_≡_, refl, ap, ap₂}
 use mathlib.Core.Bool.{Bool, true, false, _&&_, _||_, not, cond}
 use mathlib.Core.List.{List}
@@ -15,7 +15,7 @@ use Rattle.cuts.specs.Cut.{at}
 use Rattle.cuts.proofs.BelowLaws.{every-false}
 use Rattle.recording.specs.Recording.{Recording, countsOf}
 use Rattle.recording.specs.Check.{refusal, scanTo, scanRecords, checkedRecords}
-use Rattle.recording.specs.Fault.{faultAt, checkedRecord, checkedStation, sourceOf, placeAt, placeRight, stampFault, localFault, receiptFault}
+use Rattle.recording.specs.Fault.{faultAt, checkedRecord, checkedStation, sourceOf, placeAt, placeRight, stampFault, localFault, receiptFault, sourceFault, tableFault}
 use Rattle.recording.specs.declared.Checked.{Checked}
 use Rattle.recording.specs.declared.records.Source.{Source}
 use Rattle.recording.proofs.CheckLaws.{atRecord-0, atRecord-fault}
@@ -144,3 +144,8 @@ unfolding receiptFault
 receiptFault-from n m firsts rows p e i k =
     let d : suc i - 1 ≡ i = omega arith in
     ap (λ (j : ℕ). cond (ltb n (suc i) || eqb (suc i) (p + 1)) 5 (cond (leb 1 k && leb k (at m j)) (stampFault n rows p (at firsts p) e (at firsts j) k) 6)) d
+
+-- a record's fault by the kind of its origin is its fault
+pub tableFault-source : (n : ℕ) (m firsts rows : List ℕ) (o k p e : ℕ) (x : Source) → x ≡ sourceOf o → sourceFault n m firsts rows x k p e ≡ tableFault n m firsts rows o k p e
+unfolding tableFault
+tableFault-source n m firsts rows o k p e x h = rw h refl

@@ -11,14 +11,12 @@ use Rattle.cuts.proofs.BelowLaws.{length-tab, getD-tab}
 use Rattle.recording.specs.Recording.{Recording, countsOf}
 use Rattle.recording.specs.Form.{mAt, firstAt, originAt, numberAt, recordingOf}
 use Rattle.recording.specs.Decode.{recordsTo, stampCell, Laid}
-use Rattle.recording.specs.Fault.{faultAt, sourceOf, ReceiptRoom}
-use Rattle.recording.specs.Tables.{sourceFault}
-use Rattle.recording.specs.declared.records.Source.{Source}
+use Rattle.recording.specs.Fault.{faultAt, tableFault, ReceiptRoom}
 use Rattle.recording.proofs.FormLaws.{stations-read, count-read, origin-read, number-read}
 use Rattle.recording.proofs.PlaceLaws.{mAt-lt, firstAt-more, firstAt-le, firstAt-mono, firstAt-lt}
 use Rattle.recording.proofs.DecodeLaws.{eventsAt-in, recordsTo-firstAt, firsts-at}
 use Rattle.recording.proofs.DecodeRight.{stampCell-stamp}
-use Rattle.recording.proofs.TablesRight.{Tables, source-right}
+use Rattle.recording.proofs.TablesRight.{Tables, table-right}
 
 module _ {lead w n : ℕ} {s m firsts rows : List ℕ} (laid : Laid lead w s n m firsts rows) where
   abbrev R : Recording
@@ -79,11 +77,10 @@ module _ {lead w n : ℕ} {s m firsts rows : List ℕ} (laid : Laid lead w s n m
           let d : q + 1 + (n - (q + 1)) ≡ n = omega arith in
           omega (arith, m-laid q h, first-laid q (omega arith), firstAt-more lead w s q, rw d at (firstAt-mono lead w s (q + 1) (n - (q + 1))), rows-room)
 
-  -- a record's fault, by the kind of its origin
+  -- a record's fault, by its origin and number
   pub record-right : (p e : ℕ) → p < n → e < mAt lead w s p → (o k : ℕ) → o ≡ originAt lead w s n (at firsts p + e) → k ≡ numberAt lead w s n (at firsts p + e)
-      → (x : Source) → x ≡ sourceOf o → sourceFault n m firsts rows x k p e ≡ faultAt R p e
-  record-right p e hp he o k eo ek x h =
-      source-right laid-tables p e hp (omega (arith, m-laid p hp)) o k
+      → tableFault n m firsts rows o k p e ≡ faultAt R p e
+  record-right p e hp he o k eo ek =
+      table-right laid-tables p e hp (omega (arith, m-laid p hp)) o k
       (origin-read lead w s p e (omega arith) he ∙ sym (rw (first-laid p (omega arith), laid .n-is) at eo))
       (number-read lead w s p e (omega arith) he ∙ sym (rw (first-laid p (omega arith), laid .n-is) at ek))
-      x h

@@ -1,10 +1,10 @@
 -- The checks of what was handed in, as the code works them out of its tables, are the tests in the written order: the tables have the recording that was
--- handed in, so a record's fault is right by `TablesRight`, and 14 stands between 6 and 7. In order: the tables; a record; all records; all checks.
+-- handed in, so a record's fault is right by `TablesRight`, and 14 stands between 6 and 7. In order: the level's test; the tables; a record; all records.
 -- Assumes nothing.
 use mathlib.Core.Path.{_≡_, refl, sym, ap, _∙_}
 use mathlib.Core.Bool.{Bool, true, false}
 use mathlib.Core.List.{List, [], _∷_, _++_}
-use Prim.Native.Nat.{ℕ, zero, suc, _+_, _*_, _/_, _%_, _≤_, _<_}
+use Prim.Native.Nat.{ℕ, suc, _+_, _*_, _/_, _%_, _≤_, _<_}
 use native.Mathlib.Omega.{arith}
 use lib.IntN.{ℤ}
 use lib.ListN.{List·getD-append}
@@ -13,19 +13,14 @@ use Rattle.cuts.specs.Below.{sumTo, tab}
 use Rattle.cuts.specs.Cut.{at}
 use Rattle.cuts.proofs.BelowLaws.{length-tab, getD-tab}
 use Rattle.recording.specs.Recording.{Event, Recording, messages, stamps, levels}
-use Rattle.recording.specs.Check.{test, faultOf, atRecord, scanTo, scanRecords}
+use Rattle.recording.specs.Check.{test, faultOf, atRecord, scanRecords}
 use Rattle.recording.specs.Fault.{faultAt}
 use Rattle.recording.specs.Write.{Given, firstGiven, recordingGiven, writerTests}
 use Rattle.recording.specs.Tables.{levelFault, givenFault, scanStation, scanGiven, givenCell}
-use Rattle.recording.specs.declared.Checked.{Checked}
+use Rattle.recording.proofs.CheckLaws.{scan-same}
 use Rattle.recording.proofs.GivenLaws.{count-is, first-is, stations-given, count-given, event-given, stamp-given, first-part}
 use Rattle.recording.proofs.WriterLaws.{cell-in}
 use Rattle.recording.proofs.TablesRight.{Tables, table-right}
-
-pub scan-same : (n : ℕ) (f h : ℕ → Checked) → ((j : ℕ) → j < n → f j ≡ h j) → scanTo n f ≡ scanTo n h
-unfolding scanTo
-scan-same zero f h e = refl
-scan-same (suc n) f h e = rw (scan-same n f h (λ j l. e j (omega arith)), e n (omega arith)) refl
 
 -- 14 between 6 and 7
 level-between : (a b d : Bool) (v : ℤ) → levelFault (faultOf (test 5 a ∷ test 6 b ∷ test 7 d ∷ [])) v ≡ faultOf (test 5 a ∷ test 6 b ∷ test 14 (isLevel v) ∷ test 7 d ∷ [])
@@ -45,7 +40,7 @@ module _ (g : Given) (m firsts : List ℕ) (m-are : m ≡ tab 8 (at (g .counts))
   m-at : (p : ℕ) → p < n → at m p ≡ at (g .counts) p
   m-at p h = count-is (g .counts) m m-are p (omega arith)
 
-  pub first-at : (p : ℕ) → p ≤ n → at firsts p ≡ firstGiven g p
+  first-at : (p : ℕ) → p ≤ n → at firsts p ≡ firstGiven g p
   unfolding firstGiven
   first-at p h = first-is (g .counts) firsts firsts-are p (omega arith)
 

@@ -1,6 +1,6 @@
 -- What the writer puts packs the recording that was handed in (`packs-given`): each field lies beside all that is put after it, so it reads back; the
--- values fit their fields because the checks passed; behind the last whole byte the room is as it was. In order: what has to fit; one part after the
--- other; each field read back; the recording; what the checks say. Assumes nothing.
+-- values fit their fields because the checks passed; behind the last whole byte the room is as it was. In order: one part after the other; each field
+-- read back; the recording; what was accepted. Assumes nothing.
 use mathlib.Core.Path.{_≡_, sym, ap, _∙_}
 use mathlib.Core.Logic.{inl}
 use mathlib.Core.List.{List, _++_}
@@ -16,9 +16,11 @@ use Rattle.levels.specs.Level.{twos}
 use Rattle.cuts.specs.Cut.{at}
 use Rattle.cuts.proofs.BelowLaws.{sumTo-same, tab-same}
 use Rattle.recording.specs.Form.{bytesFor, stationBit, recordSize, recordBit, nAt, mAt, startAt, firstAt, originAt, numberAt, levelAt, countAt, eventOf, recordingOf, needed, padding}
-use Rattle.recording.specs.Write.{Given, firstGiven, given, recordingGiven, neededGiven, Packs}
+use Rattle.recording.specs.Write.{Given, firstGiven, given, recordingGiven, neededGiven, checkedGiven, Packs}
 use Rattle.recording.specs.Pack.{turns, putStation, putRecord, stationTurn, recordTurn, named, stationed, recorded, packInto}
-use Rattle.recording.proofs.FittingRight.{Fitting}
+use Rattle.recording.specs.declared.Checked.{Checked}
+use Rattle.recording.proofs.CheckedGiven.{accepts}
+use Rattle.recording.proofs.FittingRight.{Fitting, accepts-fitting}
 use Rattle.recording.proofs.GivenLaws.{first-part}
 use Rattle.recording.proofs.TabledLaws.{event-alike, tabled-same}
 use Rattle.recording.proofs.PackLaws.{Kept, kept-then, kept-put, kept-turns, turns-field, kept-station, kept-record, kept-padding, put-field, station-count, station-start, record-origin, record-number, record-level, record-count, padding-field, take-bytes}
@@ -217,7 +219,7 @@ module _ (lead w : ℕ) (g : Given) (room : List ℕ) where
       abbrev s : List ℕ
       s = take b t
 
-      pub long : length s ≡ b
+      long : length s ≡ b
       long = length-take-le b t (rw (kept-packed .long) enough)
 
       front : (j k : ℕ) → j + k ≤ 8 * b → field s j k ≡ field t j k
@@ -261,7 +263,7 @@ module _ (lead w : ℕ) (g : Given) (room : List ℕ) where
       needed-read = ap bytesFor end-read
 
       -- what was put packs the recording, and the rest of the room is as it was
-      pub packs-fitting : ((i : ℕ) → getD room i 0 < 256) → Packs lead w (recordingGiven g) s
+      packs-fitting : ((i : ℕ) → getD room i 0 < 256) → Packs lead w (recordingGiven g) s
       unfolding padding
       packs-fitting bytes = record {
         bytes = take-bytes b t (kept-packed .bytes bytes);
@@ -270,5 +272,25 @@ module _ (lead w : ℕ) (g : Given) (room : List ℕ) where
         padded = rw (end-read, needed-read) (front end (8 * b - end) (omega (arith, end-needed)) ∙ padding-back);
       }
 
-      pub rest-kept : t ≡ s ++ drop (length s) room
+      rest-kept : t ≡ s ++ drop (length s) room
       rest-kept = rw long (sym (take-append-drop b t) ∙ ap (λ (l : List ℕ). s ++ l) (kept-packed .behind b (le-refl (8 * b))))
+
+-- the first bytes that are needed
+pub record Packed (lead w : ℕ) (g : Given) (room after : List ℕ) : Type 0 where
+  pub front : List ℕ
+  pub packs : Packs lead w (recordingGiven g) front
+  pub just : length front ≡ neededGiven lead w g
+  pub rest : after ≡ front ++ drop (length front) room
+
+module _ (lead w : ℕ) (g : Given) (room : List ℕ) (leads : 4 ≤ lead) (wide : 8 ≤ w) (high : w ≤ 16)
+    (bytes : (i : ℕ) → at (g .counts) i < 256) (room-bytes : (i : ℕ) → getD room i 0 < 256) where
+  pub packs-given : checkedGiven lead w g (length room) ≡ Checked.Accepted → Packed lead w g room (packInto lead w g room)
+  packs-given h =
+      let a = accepts lead w g (length room) h in
+      let fit = accepts-fitting lead w g (length room) wide bytes a in
+      record {
+        front = take (neededGiven lead w g) (packInto lead w g room);
+        packs = packs-fitting lead w g room leads (omega arith) high fit (a .fits) room-bytes;
+        just = long lead w g room leads (omega arith) high fit (a .fits);
+        rest = rest-kept lead w g room leads (omega arith) high fit (a .fits);
+      }

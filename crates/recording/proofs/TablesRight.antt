@@ -16,8 +16,7 @@ use Rattle.cuts.specs.Trace.{Messages, Stamps, wanted}
 use Rattle.cuts.proofs.BelowLaws.{and-true}
 use Rattle.recording.specs.Recording.{Recording, countsOf, messages, stamps}
 use Rattle.recording.specs.Check.{test, faultOf, originOk, numberOk, stampOk}
-use Rattle.recording.specs.Fault.{faultAt, sourceOf, placeAt, placeRight, stampFault, localFault, receiptFault}
-use Rattle.recording.specs.Tables.{sourceFault, tableFault}
+use Rattle.recording.specs.Fault.{faultAt, sourceOf, placeAt, placeRight, stampFault, localFault, receiptFault, sourceFault, tableFault}
 use Rattle.recording.specs.declared.records.Source.{Source}
 use Rattle.recording.proofs.FaultLaws.{every-same, leb-not, sourceOf-is, receiptFault-from}
 
@@ -84,7 +83,7 @@ module _ {R : Recording} {n : ℕ} {m firsts rows : List ℕ} (tables : Tables R
       unknown-tabled h = rw (three-faults _ _ _, eo, tables .stations, lt-leb o n (omega (arith, tables .most))) refl
 
       -- the fault by the kind of the origin
-      pub source-right : (x : Source) → x ≡ sourceOf o → sourceFault n m firsts rows x k p e ≡ faultAt R p e
+      source-right : (x : Source) → x ≡ sourceOf o → sourceFault n m firsts rows x k p e ≡ faultAt R p e
       unfolding sourceFault
       source-right Source.Local h = local-tabled (sourceOf-is _ o h)
       source-right (Source.From x) h =

@@ -1,5 +1,5 @@
--- Laws of the writer's small steps, a line for each `return`. In order: a level's bits; signed numbers; products; the table of stamps; the level's test; the origin's
--- kinds; a record's refusal; a station's. Assumes nothing.
+-- Laws of the writer's small steps, one for each `return`. In order: a level's bits; signed numbers; products; the table of stamps; the level's test;
+-- a record's refusal; a station's. Assumes nothing.
 use mathlib.Core.Path.{_≡_, refl, sym}
 use mathlib.Core.Bool.{Bool, true, false, _||_, cond}
 use mathlib.Core.Logic.{_⊎_, inl, inr}
@@ -21,12 +21,11 @@ use Rattle.levels.specs.declared.Fitted.{Fitted}
 use Rattle.cuts.specs.Cut.{at}
 use Rattle.cuts.proofs.BelowLaws.{or-right}
 use Rattle.recording.specs.Check.{refusal, atRecord, scanTo}
-use Rattle.recording.specs.Fault.{sourceOf}
-use Rattle.recording.specs.Tables.{levelFault, sourceFault, tableFault, givenFault, scanStation, givenCell}
+use Rattle.recording.specs.Fault.{tableFault}
+use Rattle.recording.specs.Tables.{levelFault, givenFault, scanStation, givenCell}
 use Rattle.recording.specs.Pack.{levelBits}
 use Rattle.recording.specs.declared.Refusal.{Refusal}
 use Rattle.recording.specs.declared.Checked.{Checked}
-use Rattle.recording.specs.declared.records.Source.{Source}
 use Rattle.recording.proofs.CheckLaws.{atRecord-0, atRecord-fault, scan-found, scan-end}
 
 -- what the reply to a number says of it
@@ -80,11 +79,6 @@ level-passes k v h = rw h (go (eqb k 5 || eqb k 6))
 pub level-fails : (k : ℕ) (v : ℤ) → (k ≡ 5 → ⊥) → (k ≡ 6 → ⊥) → isLevel v ≡ false → 14 ≡ levelFault k v
 unfolding levelFault
 level-fails k v h g e = rw (ne-eqb k 5 h, ne-eqb k 6 g, e) refl
-
--- the fault by the kind of the origin is the fault
-pub source-fault : (n : ℕ) (m firsts rows : List ℕ) (o k p e : ℕ) (x : Source) → x ≡ sourceOf o → sourceFault n m firsts rows x k p e ≡ tableFault n m firsts rows o k p e
-unfolding tableFault
-source-fault n m firsts rows o k p e x h = rw h refl
 
 -- one record's fault, and the refusal that it calls for
 module _ (n : ℕ) (m firsts rows origins numbers : List ℕ) (levels : List ℤ) (p e : ℕ) where

@@ -1,5 +1,5 @@
 -- The faults as the code works them out, those of a record out of flat tables. Nothing here has to be believed: `FaultRight` proves that a record's is the
--- first of its tests that fails. In order: the whole, a record, a station, by their tests; the origin's kinds; stamps in the table; a local step; a receipt.
+-- first of its tests that fails. In order: the whole, a record, a station, by their tests; the origin's kinds; stamps in the table; a local step; a receipt; any record.
 use mathlib.Core.Bool.{Bool, _&&_, _||_, cond}
 use mathlib.Core.List.{List}
 use Prim.Native.Nat.{ℕ, zero, suc, _+_, _-_, _*_, _≤_, max}
@@ -50,6 +50,17 @@ unfoldable pub receiptFault : ℕ → List ℕ → List ℕ → List ℕ → ℕ
 receiptFault n m firsts rows p e station k =
     cond (ltb n station || eqb station (p + 1)) 5
     (cond (leb 1 k && leb k (at m (station - 1))) (stampFault n rows p (at firsts p) e (at firsts (station - 1)) k) 6)
+
+-- the fault of event e + 1 of the station at place p, by the kind of its origin and the sender's number k
+module _ (n : ℕ) (m firsts rows : List ℕ) where
+  unfoldable pub sourceFault : Source → ℕ → ℕ → ℕ → ℕ
+  sourceFault Source.Local k p e = localFault n rows p (at firsts p) e k
+  sourceFault (Source.From o) k p e = receiptFault n m firsts rows p e o k
+  sourceFault Source.Unknown k p e = 5
+
+  -- by its origin o
+  unfoldable pub tableFault : ℕ → ℕ → ℕ → ℕ → ℕ
+  tableFault o k p e = sourceFault (sourceOf o) k p e
 
 -- the table has room for the records of every station up to its m, and for event e + 1 of p
 pub record ReceiptRoom (n : ℕ) (m firsts : List ℕ) (room p e : ℕ) : Type 0 where

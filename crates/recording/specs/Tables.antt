@@ -1,5 +1,5 @@
--- The checks of the records handed to the writer, as the code works them out of flat tables. Nothing here has to be believed: `TablesRight` and
--- `GivenRight` prove that they are the tests in the written order. In order: the whole; the fault of a record; the level's test between them; all records; the table.
+-- The writer's checks, as the code works them out of flat tables. Nothing here has to be believed: `TablesRight` and `GivenRight` prove that they are the
+-- tests in the written order. In order: the whole; the level's test; the fault of a record, by its origin; all records; the table of stamps.
 use mathlib.Core.Bool.{_||_, cond}
 use mathlib.Core.List.{List}
 use Prim.Native.Nat.{ℕ, _+_, _*_, _/_, _%_}
@@ -10,9 +10,8 @@ use Rattle.levels.specs.Level.{isLevel}
 use Rattle.cuts.specs.Cut.{at}
 use Rattle.recording.specs.Recording.{messages}
 use Rattle.recording.specs.Check.{faultOf, atRecord, atWhole, orElse, scanTo, scanRecords}
-use Rattle.recording.specs.Fault.{sourceOf, localFault, receiptFault}
+use Rattle.recording.specs.Fault.{tableFault}
 use Rattle.recording.specs.Write.{Given, recordingGiven, givenTests, writerTests}
-use Rattle.recording.specs.declared.records.Source.{Source}
 use Rattle.recording.specs.declared.Checked.{Checked}
 
 -- the first test before the records that fails
@@ -27,29 +26,18 @@ checkedLists g = orElse (atWhole (wholeFault g)) (scanRecords (messages (recordi
 unfoldable pub levelFault : ℕ → ℤ → ℕ
 levelFault k v = cond (eqb k 5 || eqb k 6) k (cond (isLevel v) k 14)
 
-module _ (n : ℕ) (m firsts rows : List ℕ) where
-  -- the first of 5, 6 and 7 that event e + 1 of the station at place p fails, by the kind of its origin; 0 if none
-  unfoldable pub sourceFault : Source → ℕ → ℕ → ℕ → ℕ
-  sourceFault Source.Local k p e = localFault n rows p (at firsts p) e k
-  sourceFault (Source.From o) k p e = receiptFault n m firsts rows p e o k
-  sourceFault Source.Unknown k p e = 5
+module _ (n : ℕ) (m firsts rows origins numbers : List ℕ) (levels : List ℤ) where
+  -- the fault of event e + 1 of the station at place p, as handed in
+  unfoldable pub givenFault : ℕ → ℕ → ℕ
+  givenFault p e = levelFault (tableFault n m firsts rows (at origins (at firsts p + e)) (at numbers (at firsts p + e)) p e) (getD levels (at firsts p + e) (pos 0))
 
-  -- the same by its origin o
-  unfoldable pub tableFault : ℕ → ℕ → ℕ → ℕ → ℕ
-  tableFault o k p e = sourceFault (sourceOf o) k p e
+  -- the first refusal among the records of the station at place p
+  unfoldable pub scanStation : ℕ → Checked
+  scanStation p = scanTo (at m p) (λ e. atRecord p e (givenFault p e))
 
-  module _ (origins numbers : List ℕ) (levels : List ℤ) where
-    -- the fault of event e + 1 of the station at place p, as handed in
-    unfoldable pub givenFault : ℕ → ℕ → ℕ
-    givenFault p e = levelFault (tableFault (at origins (at firsts p + e)) (at numbers (at firsts p + e)) p e) (getD levels (at firsts p + e) (pos 0))
-
-    -- the first refusal among the records of the station at place p
-    unfoldable pub scanStation : ℕ → Checked
-    scanStation p = scanTo (at m p) (λ e. atRecord p e (givenFault p e))
-
-    -- the first refusal among all records
-    unfoldable pub scanGiven : Checked
-    scanGiven = scanTo n scanStation
+  -- the first refusal among all records
+  unfoldable pub scanGiven : Checked
+  scanGiven = scanTo n scanStation
 
 -- number j of the table of the stamps handed in: eight places a record, 0 beyond n
 unfoldable pub givenCell : ℕ → List ℕ → ℕ → ℕ

@@ -142,7 +142,7 @@ pub fn levels(s: &[u8], room: &mut [u16]) -> bool
     true
 }
 
-// The packed recording of what is handed in, into the front of the room: n stations, their counts and start levels, the records in file order, n counts to a stamp.
+// What is handed in, packed into the front of the room: n stations' counts and start levels, and the records in file order, n counts to a stamp.
 pub fn write(
     n: u8,
     counts: &[u8],

@@ -8,7 +8,7 @@ ghost use Rattle.recording.specs.Check.{checkedRecords, checkedOf};
 ghost use Rattle.recording.specs.Lookup.{lookupOf, foundOf, notFound};
 ghost use Rattle.recording.specs.Decode.{Laid};
 ghost use Rattle.recording.specs.Decoded.{CheckedRows};
-ghost use Rattle.recording.specs.Fault.{formFault, faultAt, checkedStation, sourceOf, placeAt, stampFault, localFault, receiptFault, ReceiptRoom};
+ghost use Rattle.recording.specs.Fault.{formFault, faultAt, checkedStation, sourceOf, placeAt, stampFault, localFault, receiptFault, tableFault, ReceiptRoom};
 use crate::Checked;
 use crate::Found;
 use crate::Refusal;
@@ -148,12 +148,29 @@ pub fn record_fault(
     requires { ⌜ (lead ≤ 8) × (1 ≤ w) × (w ≤ 9) × Laid lead w (now s) n m firsts (now rows) × (p < n) × (e < mAt lead w (now s) p) ⌝ }
     ensures { λ r. ⌜ r ≡ faultAt (recordingOf lead w (now (s .entry))) p e ⌝ }
 {
-    let first = firsts[p];
-    let r = first + e;
+    let r = firsts[p] + e;
+    let o = form::origin(lead, w, s, n, r);
     let k = form::wide(form::number(lead, w, s, n, r));
-    let o = source_of(form::origin(lead, w, s, n, r));
-    match o {
-        Source::Local => local_fault(n, rows, p, first, e, k),
+    message_fault(n, m, firsts, rows, o, k, p, e)
+}
+
+// The same, of a record with the origin o and the sender's number k.
+pub fn message_fault(
+    n: usize,
+    m: [u16; 8],
+    firsts: [usize; 9],
+    rows: &[u16],
+    o: u8,
+    k: usize,
+    p: usize,
+    e: usize,
+) -> u8
+    requires { ⌜ (n ≤ 8) × (p < n) × ReceiptRoom n m firsts (length (now rows)) p e ⌝ }
+    ensures { λ r. ⌜ r ≡ tableFault n m firsts (now (rows .entry)) o k p e ⌝ }
+{
+    let source = source_of(o);
+    match source {
+        Source::Local => local_fault(n, rows, p, firsts[p], e, k),
         Source::From(station) => receipt_fault(n, m, firsts, rows, p, e, station as usize, k),
         Source::Unknown => 5,
     }
@@ -258,7 +275,6 @@ pub fn own_place(p: usize, q: usize) -> usize
 
 // Origin 0 is a local step, 1 to 8 name a station.
 pub fn source_of(o: u8) -> Source
-    requires { ⌜ o < 16 ⌝ }
     ensures { λ r. ⌜ r ≡ sourceOf o ⌝ }
 {
     match o {

@@ -10,14 +10,13 @@ ghost use Rattle.cuts.specs.Below.{every, sumTo, tab};
 ghost use Rattle.cuts.specs.Cut.{at};
 ghost use Rattle.recording.specs.Fault.{ReceiptRoom};
 ghost use Rattle.recording.specs.Write.{Wrote};
-ghost use Rattle.recording.specs.Tables.{wholeFault, checkedLists, levelFault, tableFault, givenFault, scanStation, scanGiven, givenCell};
+ghost use Rattle.recording.specs.Tables.{wholeFault, checkedLists, levelFault, givenFault, scanStation, scanGiven, givenCell};
 ghost use Rattle.recording.specs.Pack.{turns, levelBits, putPadding, putCount, putStation, putRecord, stationTurn, recordTurn, packInto};
 use crate::Checked;
 use crate::Refusal;
 use crate::Written;
 use crate::form;
 use crate::records;
-use crate::records::Source;
 use levels::Fitted;
 
 // What was handed in, checked and put into the front of the room; the room's own test comes last.
@@ -278,42 +277,8 @@ pub fn given_fault(
     let r = firsts[p] + e;
     let o = byte_at(origins, r);
     let k = form::wide(number_at(numbers, r));
-    let f = message_fault(n, m, firsts, rows, o, k, p, e);
+    let f = records::message_fault(n, m, firsts, rows, o, k, p, e);
     with_level(f, level_at(levels, r))
-}
-
-// The first of 5, 6 and 7 that event e + 1 of the station at place p fails, 0 if none.
-pub fn message_fault(
-    n: usize,
-    m: [u16; 8],
-    firsts: [usize; 9],
-    rows: &[u16],
-    o: u8,
-    k: usize,
-    p: usize,
-    e: usize,
-) -> u8
-    requires { ⌜ (n ≤ 8) × (p < n) × ReceiptRoom n m firsts (length (now rows)) p e ⌝ }
-    ensures { λ r. ⌜ r ≡ tableFault n m firsts (now (rows .entry)) o k p e ⌝ }
-{
-    if 15 < o {
-        return 5;
-    }
-    let source = records::source_of(o);
-    match source {
-        Source::Local => records::local_fault(n, rows, p, firsts[p], e, k),
-        Source::From(station) => records::receipt_fault(
-            n,
-            m,
-            firsts,
-            rows,
-            p,
-            e,
-            station as usize,
-            k,
-        ),
-        Source::Unknown => 5,
-    }
 }
 
 // 5 and 6 as they are; else 14 where the level is out of range.

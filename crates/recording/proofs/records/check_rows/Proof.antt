@@ -1,6 +1,6 @@
 -- The whole is tested first; where it has no fault n is 1 to 8, the tables laid are those that the checks of the records read, and these follow. The
 -- table of stamps stays in front of the rows.
-use mathlib.Core.Path.{_≡_, refl, sym, ap, _∙_}
+use mathlib.Core.Path.{sym, ap, _∙_}
 use native.Mathlib.Omega.{arith}
 use borrow.Author.Needs.{needs}
 use Rattle.recording.specs.declared.Checked.{Checked}

@@ -8,16 +8,16 @@ use Rattle.recording.proofs.records.receipt_fault.Statement.{statement}
 use Rattle.recording.proofs.records.receipt_fault.Tie as tie
 
 returns : tie.Need-returns
-returns c = receiptFault-above _ _ _ _ _ _ _ _ (c .if1 .taken)
+returns c = receiptFault-above _ _ _ _ _ _ _ _ (omega arith)
 
 add-if2 : tie.Need-add-if2
 add-if2 c = search needs
 
 returns-2 : tie.Need-returns-2
-returns-2 c = receiptFault-own _ _ _ _ _ _ _ _ (c .before .if1 .left) (c .if2 .taken)
+returns-2 c = receiptFault-own _ _ _ _ _ _ _ _ (omega arith) (omega arith)
 
 returns-3 : tie.Need-returns-3
-returns-3 c = receiptFault-none _ _ _ _ _ _ _ _ (c .before .before .if1 .left) (c .before .if2 .left) (c .if3 .taken)
+returns-3 c = receiptFault-none _ _ _ _ _ _ _ _ (omega arith) (c .before .if2 .left) (omega arith)
 
 sub-sender : tie.Need-sub-sender
 sub-sender c = search needs
@@ -32,9 +32,7 @@ wide-requires : tie.Need-wide-requires
 wide-requires c κs = search needs
 
 returns-4 : tie.Need-returns-4
-returns-4 c =
-    let b = c .before .before in
-    receiptFault-late _ _ _ _ _ _ _ _ (b .before .before .if1 .left) (b .before .if2 .left) (b .if3 .left) (omega arith)
+returns-4 c = receiptFault-late _ _ _ _ _ _ _ _ (omega arith) (c .before .before .before .if2 .left) (omega arith) (omega arith)
 
 mul-stamp-fault : tie.Need-mul-stamp-fault
 mul-stamp-fault c = search needs
@@ -55,8 +53,7 @@ stamp-fault-requires c κs =
 
 returns-5 : tie.Need-returns-5
 returns-5 c =
-    let b = c .before .before .before in
-    c .stamp-fault .ensures ∙ receiptFault-stamp _ _ _ _ _ _ _ _ (b .before .before .if1 .left) (b .before .if2 .left) (b .if3 .left) (omega arith)
+    c .stamp-fault .ensures ∙ receiptFault-stamp _ _ _ _ _ _ _ _ (omega arith) (c .before .before .before .before .if2 .left) (omega arith) (omega arith)
 
 pub receipt-fault-spec : {M : Type 1} → statement M
 receipt-fault-spec =

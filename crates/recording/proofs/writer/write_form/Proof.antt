@@ -9,6 +9,7 @@ use Rattle.recording.specs.Write.{firstGiven, refused}
 use Rattle.recording.specs.declared.Checked.{Checked}
 use Rattle.recording.proofs.GivenLaws.{first-is}
 use Rattle.recording.proofs.CheckedGiven.{lists-most, needed-is, refused-lists, refused-room, all-accepted}
+use Rattle.recording.proofs.PackRight.{packs-given}
 use Rattle.recording.proofs.WriteRight.{wrote-done}
 use Rattle.recording.proofs.writer.write_form.Statement.{statement}
 use Rattle.recording.proofs.writer.write_form.Tie as tie
@@ -86,8 +87,8 @@ returns-3 c =
     let first = first-is (a .args .counts .now) _ (f .firsts-of .ensures .0) _ most in
     let bytes : (i : ℕ) → at (a .args .counts .now) i < 256 = λ i. omega (arith, k .before .before .before .before .shared-slice-known .given i) in
     let room-bytes : (i : ℕ) → getD (a .args .room .now) i 0 < 256 = λ i. omega (arith, k .slice-known .given i) in
-    wrote-done _ _ _ _ (a .pre .0) (a .pre .2) (omega (arith, a .pre .3)) bytes room-bytes _ _
-    (all-accepted _ _ _ _ _ (v .before .before .check-lists .ensures) (v .enum-told .given .1) _ _ _ first (b .before .record-bit .ensures .0) (b .bytes-for .ensures .0) (z .if1 .left))
+    let accepted = all-accepted _ _ _ _ _ (v .before .before .check-lists .ensures) (v .enum-told .given .1) _ _ _ first (b .before .record-bit .ensures .0) (b .bytes-for .ensures .0) (z .if1 .left) in
+    wrote-done _ _ _ _ _ _ accepted (packs-given _ _ _ _ (a .pre .0) (a .pre .2) (omega (arith, a .pre .3)) bytes room-bytes accepted)
     (p .pack .ensures) (needed-is _ _ _ _ _ _ first (b .before .record-bit .ensures .0) (b .bytes-for .ensures .0))
 
 pub write-form-spec : {M : Type 1} → statement M
