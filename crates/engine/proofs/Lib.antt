@@ -1,0 +1,5 @@
+pub mod JudgeRight
+pub mod LimitLaws
+pub mod PrepareLaws
+pub mod PrepareRight
+pub mod RoomLaws

@@ -1,0 +1,111 @@
+-- After p turns what the first p stations add stands in front, one station behind the other, and the rest is as it was.
+use mathlib.Core.Path.{_≡_, refl, sym, ap, _∙_}
+use mathlib.Core.List.{_++_}
+use Prim.Native.Nat.{ℕ, _+_, _-_, _*_, _≤_}
+use native.Mathlib.Nat.{le-antisymm}
+use native.Mathlib.Omega.{arith}
+use lib.ListN.{length, drop}
+use borrow.Author.Needs.{needs}
+use Rattle.cuts.specs.Cut.{at}
+use Rattle.engine.specs.Prepare.{rowsTo, firstOf, weightsTo}
+use Rattle.engine.proofs.PrepareLaws.{rowsTo-zero, rowsTo-more, firstOf-zero, firstOf-more, weightsTo-none, weightsTo-more}
+use Rattle.engine.proofs.weights.lay_weights.Statement.{statement}
+use Rattle.engine.proofs.weights.lay_weights.Tie as tie
+
+abbrev Inv-loop : tie.InvT-loop
+Inv-loop c levels weights₀ starts n counts rows₀ first₀ p₀ weights rows first p =
+    (p ≤ n) × (n ≤ 8) × (rows ≡ rowsTo counts p) × (first ≡ firstOf counts p) × (length weights ≡ length weights₀) × (length weights₀ ≡ 4096)
+    × (weights ≡ weightsTo counts c starts levels p ++ drop (1 * rowsTo counts p) weights₀) × ((q : ℕ) → at counts q ≤ 511) × (rows ≤ 512 * p) × (first ≤ 511 * p)
+
+abbrev μ-loop : tie.MeasureT-loop
+μ-loop c levels weights₀ starts n counts rows₀ first₀ p₀ weights rows first p = n - p
+
+cast-n : tie.Need-cast-n Inv-loop μ-loop
+cast-n c = search needs
+
+loop-holds : tie.Need-loop-holds Inv-loop μ-loop
+loop-holds c =
+    let pre = c .before .before .before .before .pre in
+    (omega arith, pre .0 .n-most, sym (rowsTo-zero _), sym (firstOf-zero _), refl, pre .1, weightsTo-none _ _ _ _ _, pre .0 .few, omega arith, omega arith)
+
+mul-wide : tie.Need-mul-wide Inv-loop μ-loop
+mul-wide c = search needs
+
+array-read-wide : tie.Need-array-read-wide Inv-loop μ-loop
+array-read-wide c = omega arith
+
+wide-requires : tie.Need-wide-requires Inv-loop μ-loop
+wide-requires c κs = search needs
+
+mul-lay-station-weights : tie.Need-mul-lay-station-weights Inv-loop μ-loop
+mul-lay-station-weights c = omega (arith, c .before .before .loop .inv)
+
+array-read-lay-station-weights : tie.Need-array-read-lay-station-weights Inv-loop μ-loop
+array-read-lay-station-weights c = omega (arith, c .before .before .loop .inv)
+
+lay-station-weights-requires : tie.Need-lay-station-weights-requires Inv-loop μ-loop
+lay-station-weights-requires c κs =
+    let L = c .before .before .before .loop in
+    let m : c .before .wide .result ≤ 511 = rw (c .before .wide .ensures .0) (L .inv .7 (L .p)) in
+    (omega (arith, L .inv), m, omega (arith, L .inv), L .inv .4 ∙ L .inv .5)
+
+add-rows : tie.Need-add-rows Inv-loop μ-loop
+add-rows c = search needs
+
+add-rows-2 : tie.Need-add-rows-2 Inv-loop μ-loop
+add-rows-2 c = omega (arith, c .before .before .before .before .before .before .loop .inv)
+
+add-first : tie.Need-add-first Inv-loop μ-loop
+add-first c = omega (arith, c .before .before .before .before .before .before .loop .inv)
+
+add-p : tie.Need-add-p Inv-loop μ-loop
+add-p c = omega arith
+
+loop-less : tie.Need-loop-less Inv-loop μ-loop
+loop-less c = omega arith
+
+loop-again : tie.Need-loop-again Inv-loop μ-loop
+loop-again c =
+    let L = c .before .before .before .before .before .before .loop in
+    let w = c .before .before .before .before .wide in
+    let m : w .result ≤ 511 = rw (w .ensures .0) (L .inv .7 (L .p)) in (
+      omega arith,
+      L .inv .1,
+      rw (L .inv .2, w .ensures .0) (sym (rowsTo-more _ _)),
+      rw (L .inv .3, w .ensures .0) (sym (firstOf-more _ _)),
+      c .before .before .lay-station-weights .kept .1 .1 .1 .1 .1 .1 .1 .0 ∙ L .inv .4,
+      L .inv .5,
+      weightsTo-more _ _ _ _ _ _ _ (L .p) _ _ _ _ (L .inv .6) (c .before .before .lay-station-weights .ensures) refl (L .inv .3) (L .inv .2 ∙ omega arith) (rw (w .ensures .0) (omega arith)) (omega (arith, L .inv)),
+      L .inv .7,
+      omega (arith, L .inv),
+      omega (arith, L .inv),
+    )
+
+same-length : tie.Need-same-length Inv-loop μ-loop
+same-length c = omega arith
+
+returns : tie.Need-returns Inv-loop μ-loop
+returns c = rw (le-antisymm (c .before .loop .inv .0) (c .loop-test .left)) at (c .before .loop .inv .6)
+
+pub lay-weights-spec : {M : Type 1} → statement M
+lay-weights-spec =
+    tie.close
+    (tie.spec
+    Inv-loop
+    μ-loop
+    cast-n
+    loop-holds
+    mul-wide
+    array-read-wide
+    wide-requires
+    mul-lay-station-weights
+    array-read-lay-station-weights
+    lay-station-weights-requires
+    add-rows
+    add-rows-2
+    add-first
+    add-p
+    loop-less
+    loop-again
+    same-length
+    returns)

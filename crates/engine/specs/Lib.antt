@@ -1,0 +1,4 @@
+pub mod Job
+pub mod Prepare
+pub mod Answer
+pub mod Computed

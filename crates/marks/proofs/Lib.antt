@@ -1,0 +1,7 @@
+pub mod SearchLaws
+pub mod FlatLaws
+pub mod RowLaws
+pub mod BackLaws
+pub mod MarkLaws
+pub mod FillLaws
+pub mod FlatRight

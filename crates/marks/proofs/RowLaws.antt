@@ -1,0 +1,228 @@
+-- Laws of the rows of station 1. In order: the events of a cut; a row of zeros; the digits of a rank; lists filled in part; the last cut of a row,
+-- its other cuts and where it lies; the next row. Assumes nothing.
+use mathlib.Core.Path.{_≡_, refl, sym, ap, _∙_}
+use mathlib.Core.List.{List, [], _∷_, _++_, append-assoc, append-nil}
+use Prim.Native.Nat.{ℕ, zero, suc, _+_, _-_, _*_, _/_, _%_, _≤_, _<_}
+use native.Mathlib.Nat.{not-suc-le-zero, le-of-suc-le-suc, zero-lt-suc, div-one, div-div-eq-div-mul, mul-add-mod-self-left, mul-add-div, mod-eq-of-lt, div-eq-of-lt, mul-le-mul-left, mod-lt, div-add-mod}
+use native.Mathlib.Decide.{decLt}
+use native.Mathlib.Numerals.{add-one}
+use native.Mathlib.Omega.{arith}
+use lib.ListN.{length, take, drop, set, replicate, take-append-drop, length-append, length-drop, length-replicate, replicate-append-replicate, List·getD-eq-default}
+use lib.Seq.{length-take-le, drop-at, drop-set-lt, drop-append-add, drop-drop}
+use Rattle.cuts.specs.Below.{sumTo, tab}
+use Rattle.cuts.specs.Cut.{at, total}
+use Rattle.cuts.specs.Rank.{weight, unrank, box}
+use Rattle.cuts.specs.Value.{countsOf, FullCut}
+use Rattle.cuts.specs.declared.Cut.{Cut}
+use Rattle.cuts.proofs.BelowLaws.{sumTo-first, productTo-same, tab-same, length-tab, getD-tab}
+use Rattle.cuts.proofs.RankLaws.{weight-zero, weight-cons, box-cons}
+use Rattle.cuts.proofs.TabLaws.{front-more}
+use Rattle.cuts.proofs.ValueLaws.{at-countsOf, weight-more}
+use Rattle.marks.specs.Rows.{cutAt, topAt, RowAt}
+
+-- the events of the first n stations
+pub total-take : (n : ℕ) (l : List ℕ) → n ≤ length l → total (take n l) ≡ sumTo n (at l)
+unfolding sumTo
+total-take zero l h = refl
+total-take (suc n) [] h = absurd (not-suc-le-zero h)
+total-take (suc n) (x ∷ l) h = ap (λ (s : ℕ). x + s) (total-take n l (le-of-suc-le-suc h)) ∙ sym (sumTo-first n (at (x ∷ l)))
+
+-- no zero yet
+pub blank-none : (l : List ℕ) (first : ℕ) → l ≡ (take first l ++ replicate 0 0) ++ drop (first + 0) l
+blank-none l first =
+    let e : first + 0 ≡ first = omega arith in
+    sym (rw (e, append-nil) (take-append-drop first l))
+
+replicate-more : (k a : ℕ) → replicate (k + 1) a ≡ replicate k a ++ (a ∷ [])
+replicate-more k a = sym (replicate-append-replicate k 1 a)
+
+pub replicate-snoc : (k a : ℕ) → replicate (suc k) a ≡ replicate k a ++ (a ∷ [])
+replicate-snoc k a = ap (λ (i : ℕ). replicate i a) (sym (add-one k)) ∙ replicate-more k a
+
+-- one zero more
+pub blank-more : (l : List ℕ) (first x : ℕ) → first + x < length l
+    → set ((take first l ++ replicate x 0) ++ drop (first + x) l) (first + x) 0 ≡ (take first l ++ replicate (x + 1) 0) ++ drop (first + (x + 1)) l
+blank-more l first x h =
+    let e : first + x + 1 ≡ first + (x + 1) = omega arith in
+    front-more (take first l ++ replicate x 0) l (first + x) 0 0
+    (length-append (take first l) _ ∙ omega (arith, length-take-le first l (omega arith), length-replicate {A = ℕ} x 0))
+    h
+    ∙ rw (e, replicate-more x 0, ← append-assoc (take first l) (replicate x 0) (0 ∷ [])) refl
+
+pub length-unrank : (m : List ℕ) (r : ℕ) → length (unrank m r) ≡ length m
+unfolding unrank
+length-unrank [] r = refl
+length-unrank (k ∷ m) r = ap suc (length-unrank m (r / suc k))
+
+-- a digit of a rank
+pub at-unrank : (m : List ℕ) (r i : ℕ) → i < length m → at (unrank m r) i ≡ (r / weight m i) % suc (at m i)
+unfolding unrank
+at-unrank [] r i h = absurd (not-suc-le-zero h)
+at-unrank (k ∷ m) r zero h = rw (weight-zero, div-one) refl
+at-unrank (k ∷ m) r (suc i) h = at-unrank m (r / suc k) i (le-of-suc-le-suc h) ∙ rw (weight-cons, div-div-eq-div-mul) refl
+
+-- counts of the last cut of row j, as far as they come by division
+unfoldable pub digitAt : List ℕ → ℕ → ℕ → ℕ
+digitAt events j zero = at events 0
+digitAt events j (suc i) = (j / weight (drop 1 events) i) % suc (at (drop 1 events) i)
+
+at-drop-one : (l : List ℕ) (i : ℕ) → at (drop 1 l) i ≡ at l (suc i)
+at-drop-one [] i = refl
+at-drop-one (x ∷ l) i = refl
+
+pub digitAt-more : (events : List ℕ) (j i : ℕ) → digitAt events j (i + 1) ≡ (j / weight (drop 1 events) i) % (at events (i + 1) + 1)
+unfolding digitAt
+digitAt-more events j i = rw (add-one i, add-one (at events (suc i)), at-drop-one) refl
+
+-- the first of them
+pub top-one : (events counts : List ℕ) (j : ℕ) → 0 < length counts → set counts 0 (at events 0) ≡ tab 1 (digitAt events j) ++ drop 1 (set counts 0 (at events 0))
+unfolding tab digitAt
+top-one events [] j h = absurd (not-suc-le-zero h)
+top-one events (x ∷ counts) j h = refl
+
+pub weight-next : (l : List ℕ) (p w k : ℕ) → w ≡ weight l p → k ≡ at l p → w * (k + 1) ≡ weight l (p + 1)
+weight-next l p w k e f = rw (e, f, weight-more) refl
+
+-- what remains of j after one digit more
+pub digits-left : (events : List ℕ) (j i : ℕ) → j / weight (drop 1 events) i / (at events (i + 1) + 1) ≡ j / weight (drop 1 events) (i + 1)
+digits-left events j i =
+    div-div-eq-div-mul j (weight (drop 1 events) i) (at events (i + 1) + 1)
+    ∙ ap (λ (w : ℕ). j / w)
+    (weight-next (drop 1 events) i _ (at events (i + 1)) refl (sym (at-drop-one events i ∙ ap (at events) (sym (add-one i)))))
+
+drop-replicate : (n k a : ℕ) → drop n (replicate k a) ≡ replicate (k - n) a
+drop-replicate zero k a =
+    let e : k - 0 ≡ k = omega arith in
+    rw e refl
+drop-replicate (suc n) zero a =
+    let e : 0 - suc n ≡ 0 = omega arith in
+    rw e refl
+drop-replicate (suc n) (suc k) a =
+    let e : suc k - suc n ≡ k - n = omega arith in
+    rw e (drop-replicate n k a)
+
+tab-more-zeros : (n k : ℕ) (f : ℕ → ℕ) → ((q : ℕ) → n ≤ q → f q ≡ 0) → tab n f ++ replicate k 0 ≡ tab (n + k) f
+unfolding tab
+tab-more-zeros n zero f h =
+    let e : n + 0 ≡ n = omega arith in
+    rw e (append-nil (tab n f))
+tab-more-zeros n (suc k) f h =
+    let e : n + suc k ≡ suc (n + k) = omega arith in
+    ap (λ (l : List ℕ). tab n f ++ l) (replicate-snoc k 0)
+    ∙ sym (append-assoc (tab n f) (replicate k 0) (0 ∷ []))
+    ∙ ap (λ (l : List ℕ). l ++ (0 ∷ [])) (tab-more-zeros n k f h)
+    ∙ rw (e, h (n + k) (omega arith)) refl
+
+-- a list filled as far as f is not 0 is filled
+pub tab-zeros : (n k : ℕ) (f : ℕ → ℕ) → n ≤ k → ((q : ℕ) → n ≤ q → f q ≡ 0) → tab n f ++ drop n (replicate k 0) ≡ tab k f
+tab-zeros n k f l h =
+    let e : n + (k - n) ≡ k = omega arith in
+    rw (drop-replicate n k 0, tab-more-zeros n (k - n) f h, e) refl
+
+cons-of : (l : List ℕ) → 0 < length l → l ≡ at l 0 ∷ drop 1 l
+cons-of [] h = absurd (not-suc-le-zero h)
+cons-of (x ∷ l) h = refl
+
+pub unrank-cons : (k : ℕ) (m : List ℕ) (j x : ℕ) → x ≤ k → unrank (k ∷ m) (suc k * j + x) ≡ x ∷ unrank m j
+unfolding unrank
+unrank-cons k m j x h =
+    let l : x < suc k = omega arith in
+    let a : (suc k * j + x) % suc k ≡ x = mul-add-mod-self-left (suc k) j x ∙ mod-eq-of-lt l in
+    let b : (suc k * j + x) / suc k ≡ j = mul-add-div (zero-lt-suc k) j x ∙ omega (arith, div-eq-of-lt l) in
+    rw (a, b) refl
+
+-- a row that begins below the box lies in it
+whole-row : (k j b : ℕ) → suc k * j < suc k * b → suc k * j + suc k ≤ suc k * b
+whole-row k j b h = go (decLt j b)
+  where
+    go : Dec (j < b) → suc k * j + suc k ≤ suc k * b
+    go (yes l) = omega (arith, mul-le-mul-left (suc k) l)
+    go (no l) = let g : b ≤ j = omega arith in absurd (omega (arith, mul-le-mul-left (suc k) g))
+
+module _ (m : Cut) (full : FullCut m) (eight : length (m .counts) ≡ 8) where
+  pub length-countsOf : length (countsOf m) ≡ m .n
+  length-countsOf = length-take-le (m .n) (m .counts) (omega (arith, full .most-eight))
+
+  -- the stations but the first
+  length-others : suc (length (drop 1 (countsOf m))) ≡ m .n
+  length-others = omega (arith, length-drop 1 (countsOf m), length-countsOf, full .some-station)
+
+  at-others : (i : ℕ) → suc i < m .n → at (drop 1 (countsOf m)) i ≡ at (drop 1 (m .counts)) i
+  at-others i h = at-drop-one (countsOf m) i ∙ at-countsOf m (suc i) h ∙ sym (at-drop-one (m .counts) i)
+
+  weight-others : (i : ℕ) → i < m .n → weight (drop 1 (countsOf m)) i ≡ weight (drop 1 (m .counts)) i
+  unfolding weight
+  weight-others i h = productTo-same i _ _ (λ q l. ap suc (at-others q (omega arith)))
+
+  -- the digits of j are the counts of the last cut of row j
+  pub topAt-digits : (j : ℕ) → tab (m .n) (digitAt (m .counts) j) ++ drop (m .n) (replicate 8 0) ≡ topAt m j
+  unfolding digitAt topAt
+  topAt-digits j =
+      ap (λ (l : List ℕ). l ++ drop (m .n) (replicate 8 0)) (tab-same (m .n) _ g same)
+      ∙ tab-zeros (m .n) 8 g (full .most-eight) (λ q h. List·getD-eq-default (k ∷ u) 0 {n = q} (omega (arith, length-others, length-unrank (drop 1 (countsOf m)) j)))
+    where
+      k : ℕ
+      k = at (m .counts) 0
+
+      u : List ℕ
+      u = unrank (drop 1 (countsOf m)) j
+
+      g : ℕ → ℕ
+      g = at (k ∷ u)
+
+      same : (q : ℕ) → q < m .n → digitAt (m .counts) j q ≡ g q
+      same zero h = refl
+      same (suc i) h = sym (at-unrank (drop 1 (countsOf m)) j i (omega (arith, length-others)) ∙ rw (at-others i h, weight-others i (omega arith)) refl)
+
+  -- .. over counts that are 0 beyond n
+  pub topAt-laid : (counts : List ℕ) (j v : ℕ) → drop (m .n) counts ≡ drop (m .n) (replicate 8 0)
+      → tab (m .n) (digitAt (m .counts) j) ++ drop (m .n) (set counts 0 v) ≡ topAt m j
+  topAt-laid counts j v h = rw (drop-set-lt (m .n) counts 0 v (full .some-station), h) (topAt-digits j)
+
+  pub drop-topAt : (j : ℕ) → drop (m .n) (topAt m j) ≡ drop (m .n) (replicate 8 0)
+  drop-topAt j = rw (← topAt-digits j) (drop-at (tab (m .n) (digitAt (m .counts) j)) _ (m .n) (length-tab (m .n) _))
+
+  -- station 1 and the others
+  countsOf-cons : countsOf m ≡ at (m .counts) 0 ∷ drop 1 (countsOf m)
+  countsOf-cons = cons-of (countsOf m) (omega (arith, length-countsOf, full .some-station)) ∙ rw (at-countsOf m 0 (full .some-station)) refl
+
+  -- the cut of row j with x events of station 1
+  pub set-topAt : (j x : ℕ) → x ≤ at (m .counts) 0 → set (topAt m j) 0 x ≡ cutAt m (suc (at (m .counts) 0) * j + x)
+  unfolding topAt cutAt tab
+  set-topAt j x h = sym (ap (λ (c : List ℕ). tab 8 (at c)) (ap (λ (k : List ℕ). unrank k (suc (at (m .counts) 0) * j + x)) countsOf-cons ∙ unrank-cons (at (m .counts) 0) (drop 1 (countsOf m)) j x h))
+
+  -- the cut of a rank
+  pub set-topAt-rank : (r k : ℕ) → k ≡ at (m .counts) 0 → set (topAt m (r / (k + 1))) 0 (r % (k + 1)) ≡ cutAt m r
+  set-topAt-rank r k e =
+      let s : k + 1 ≡ suc (at (m .counts) 0) = omega arith in
+      rw s (set-topAt (r / suc (at (m .counts) 0)) (r % suc (at (m .counts) 0)) (le-of-suc-le-suc (mod-lt r (zero-lt-suc (at (m .counts) 0)))) ∙ ap (cutAt m) (div-add-mod r (suc (at (m .counts) 0))))
+
+  -- row j, where its first rank is below the box
+  pub rowAt-is : (j : ℕ) → suc (at (m .counts) 0) * j < box (countsOf m) → RowAt m (topAt m j) (suc (at (m .counts) 0) * j)
+  unfolding topAt
+  rowAt-is j h = record {
+    eight = length-tab 8 _;
+    last = getD-tab 8 (at (at (m .counts) 0 ∷ unrank (drop 1 (countsOf m)) j)) 0 0 (omega arith);
+    cuts = set-topAt j;
+    within = omega (arith, size, whole-row (at (m .counts) 0) j (box (drop 1 (countsOf m))) (omega (arith, size)));
+  }
+    where
+      size : box (countsOf m) ≡ suc (at (m .counts) 0) * box (drop 1 (countsOf m))
+      size = ap box countsOf-cons ∙ box-cons (at (m .counts) 0) (drop 1 (countsOf m))
+
+  -- the row that begins at rank r, for w events of station 1
+  pub rowAt-here : (w j r : ℕ) → w ≡ at (m .counts) 0 → r ≡ (w + 1) * j → r < box (countsOf m) → RowAt m (topAt m j) r
+  rowAt-here w j r e f h =
+      let s : r ≡ suc (at (m .counts) 0) * j = f ∙ ap (λ (k : ℕ). k * j) (omega arith) in
+      rw s (rowAt-is j (rw s at h))
+
+-- where the next row begins
+pub row-next : (w j r : ℕ) → r ≡ (w + 1) * j → r + (w + 1) ≡ (w + 1) * (j + 1)
+row-next w j r e = omega arith
+
+-- the rest of a list whose first k are xs
+pub drop-front : (xs d : List ℕ) (k n : ℕ) → length xs ≡ k → k ≤ n → drop n (xs ++ drop k d) ≡ drop n d
+drop-front xs d k n e h =
+    let a : n ≡ length xs + (n - k) = omega arith in
+    let b : k + (n - k) ≡ n = omega arith in
+    ap (λ (i : ℕ). drop i (xs ++ drop k d)) a ∙ drop-append-add xs (drop k d) (n - k) ∙ drop-drop (n - k) k d ∙ ap (λ (i : ℕ). drop i d) b

@@ -1,0 +1,139 @@
+-- Laws of tests, searches and lists that the loops of this crate end by. In order: two tests that agree; every and sums, the first
+-- apart; first and any; the largest; steps back on eight counts. Assumes nothing.
+use mathlib.Core.Path.{_≡_, refl, sym, ap, ap₂, _∙_}
+use mathlib.Core.Bool.{Bool, true, false, _&&_, cond, false≢true}
+use mathlib.Core.Logic.{_⊎_, inl, inr, ⊎-elim}
+use mathlib.Core.List.{List, [], _∷_}
+use Prim.Native.Nat.{ℕ, zero, suc, _+_, _-_, _≤_, _<_, min, max}
+use native.Mathlib.Nat.{not-suc-le-zero, le-of-suc-le-suc, le-antisymm}
+use native.Mathlib.Decide.{decLe, decLt}
+use native.Mathlib.Numerals.{add-one}
+use native.Mathlib.Omega.{arith}
+use lib.Dec.{leb, ltb, eqb}
+use lib.ListN.{length, take, List·getD-eq-default}
+use borrow.Author.Tests.{leb-true, le-leb}
+use Rattle.cuts.specs.Below.{every, firstFrom, first, any, sumTo}
+use Rattle.cuts.specs.Cut.{at, back}
+use Rattle.cuts.proofs.BelowLaws.{and-true, last-or-below, sumTo-first, sumTo-same, every-true, true-every, first-is, first-le}
+use Rattle.marks.specs.Rows.{mostTo}
+
+-- two tests each of which follows from the other
+pub tests-same : (a b : Bool) → (a ≡ true → b ≡ true) → (b ≡ true → a ≡ true) → a ≡ b
+tests-same true b h g = sym (h refl)
+tests-same false true h g = g refl
+tests-same false false h g = refl
+
+pub every-same : (n : ℕ) (f g : ℕ → Bool) → ((q : ℕ) → q < n → f q ≡ g q) → every n f ≡ every n g
+unfolding every
+every-same zero f g h = refl
+every-same (suc n) f g h = ap₂ _&&_ (every-same n f g (λ q l. h q (omega arith))) (h n (omega arith))
+
+pub and-both : {a b : Bool} → a ≡ true → b ≡ true → (a && b) ≡ true
+and-both h g = rw (h, g) refl
+
+-- the first of the tests apart
+pub every-split : (n : ℕ) (f : ℕ → Bool) → 1 ≤ n → every n f ≡ (f 0 && every (n - 1) (λ i. f (i + 1)))
+every-split n f h = tests-same _ _ apart joined
+  where
+    apart : every n f ≡ true → (f 0 && every (n - 1) (λ i. f (i + 1))) ≡ true
+    apart e = and-both (every-true n f e 0 h) (true-every (n - 1) _ (λ i l. every-true n f e (i + 1) (omega arith)))
+
+    joined : (f 0 && every (n - 1) (λ i. f (i + 1))) ≡ true → every n f ≡ true
+    joined e = true-every n f at-q
+      where
+        at-q : (q : ℕ) → q < n → f q ≡ true
+        at-q zero l = and-true (f 0) _ e .0
+        at-q (suc i) l = ap f (sym (add-one i)) ∙ every-true (n - 1) (λ i. f (i + 1)) (and-true (f 0) _ e .1) i (omega arith)
+
+-- the first of the terms apart
+pub sumTo-split : (n : ℕ) (f : ℕ → ℕ) → 1 ≤ n → sumTo n f ≡ f 0 + sumTo (n - 1) (λ i. f (i + 1))
+sumTo-split zero f h = absurd (not-suc-le-zero h)
+sumTo-split (suc n) f h =
+    let e : suc n - 1 ≡ n = omega arith in
+    sumTo-first n f ∙ rw e (ap (λ (s : ℕ). f 0 + s) (sumTo-same n _ _ (λ q l. ap f (sym (add-one q)))))
+
+-- a search whose every place below p failed and whose place p passes
+pub first-found : (f : ℕ → Bool) (n p : ℕ) → p < n → ((q : ℕ) → q < p → f q ≡ false) → f p ≡ true → first f n ≡ p
+first-found f n p l h e = go (decLt (first f n) p)
+  where
+    go : Dec (first f n < p) → first f n ≡ p
+    go (yes k) = absurd (false≢true (sym (h (first f n) k) ∙ first-is f n .passes (omega arith)))
+    go (no k) = le-antisymm (first-le f n p e) (omega arith)
+
+-- .. and one whose every place failed
+pub first-none : (f : ℕ → Bool) (n : ℕ) → ((q : ℕ) → q < n → f q ≡ false) → first f n ≡ n
+first-none f n h = go (decLt (first f n) n)
+  where
+    go : Dec (first f n < n) → first f n ≡ n
+    go (yes k) = absurd (false≢true (sym (h (first f n) k) ∙ first-is f n .passes k))
+    go (no k) = le-antisymm (first-is f n .high) (omega arith)
+
+-- the lower of two ends is one of them
+pub end-reached : (length size r : ℕ) → min length size ≤ r → (size ≤ r) ⊎ (length ≤ r)
+end-reached length size r h = go (decLe size r)
+  where
+    go : Dec (size ≤ r) → (size ≤ r) ⊎ (length ≤ r)
+    go (yes k) = inl k
+    go (no k) = inr (omega arith)
+
+-- no rank is marked 1 where none below r is and r is the end of the marks or of the box
+pub one-none : (marks : List ℕ) (size r : ℕ) → (size ≤ r) ⊎ (length marks ≤ r) → ((q : ℕ) → q < r → eqb (at marks q) 1 ≡ false)
+    → (q : ℕ) → q < size → eqb (at marks q) 1 ≡ false
+one-none marks size r e h q l = go (decLt q r)
+  where
+    go : Dec (q < r) → eqb (at marks q) 1 ≡ false
+    go (yes k) = h q k
+    go (no k) = ⊎-elim (λ s. absurd (omega arith)) (λ s. rw (List·getD-eq-default marks 0 {n = q} (omega arith)) refl) e
+
+firstFrom-same : (f g : ℕ → Bool) (n p : ℕ) → ((q : ℕ) → q < p + n → f q ≡ g q) → firstFrom f n p ≡ firstFrom g n p
+unfolding firstFrom
+firstFrom-same f g zero p h = refl
+firstFrom-same f g (suc n) p h =
+    ap₂ (λ (b : Bool) (r : ℕ). cond b p r) (h p (omega arith)) (firstFrom-same f g n (suc p) (λ q l. h q (omega arith)))
+
+pub first-same : (f g : ℕ → Bool) (n : ℕ) → ((q : ℕ) → q < n → f q ≡ g q) → first f n ≡ first g n
+first-same f g n h = firstFrom-same f g n 0 (λ q l. h q (omega arith))
+
+pub any-same : (f g : ℕ → Bool) (n : ℕ) → ((q : ℕ) → q < n → f q ≡ g q) → any f n ≡ any g n
+unfolding any
+any-same f g n h = ap (λ (p : ℕ). ltb p n) (first-same f g n h)
+
+le-mostTo : (n : ℕ) (f : ℕ → ℕ) (i : ℕ) → i < n → f i ≤ mostTo n f
+unfolding mostTo
+le-mostTo zero f i l = absurd (not-suc-le-zero l)
+le-mostTo (suc n) f i l = ⊎-elim (λ e. rw e (omega arith)) (λ k. omega (arith, le-mostTo n f i k)) (last-or-below n i l)
+
+mostTo-le : (n : ℕ) (f : ℕ → ℕ) (x : ℕ) → ((i : ℕ) → i < n → f i ≤ x) → mostTo n f ≤ x
+unfolding mostTo
+mostTo-le zero f x h = omega arith
+mostTo-le (suc n) f x h = omega (arith, h n (omega arith), mostTo-le n f x (λ i l. h i (omega arith)))
+
+-- the largest is not above x exactly if none is
+pub leb-mostTo : (n : ℕ) (f : ℕ → ℕ) (x : ℕ) → leb (mostTo n f) x ≡ every n (λ i. leb (f i) x)
+leb-mostTo n f x =
+    tests-same _ _
+    (λ h. true-every n _ (λ i l. le-leb (f i) x (omega (arith, leb-true (mostTo n f) x h, le-mostTo n f i l))))
+    (λ h. le-leb (mostTo n f) x (mostTo-le n f x (λ i l. leb-true (f i) x (every-true n (λ i. leb (f i) x) h i l))))
+
+pub mostTo-more : (n : ℕ) (f : ℕ → ℕ) → mostTo (n + 1) f ≡ max (mostTo n f) (f n)
+unfolding mostTo
+mostTo-more n f = rw (add-one n) refl
+
+-- a step back at a place beyond the counts changes nothing
+pub back-beyond : (p : ℕ) (c : List ℕ) → length c ≤ p → back p c ≡ c
+back-beyond p [] h = refl
+back-beyond zero (x ∷ c) h = absurd (not-suc-le-zero h)
+back-beyond (suc p) (x ∷ c) h = ap {B = List ℕ} (λ r. x ∷ r) (back-beyond p c (le-of-suc-le-suc h))
+
+-- .. nor does one where the count is 0
+pub back-none : (p : ℕ) (c : List ℕ) → at c p < 1 → back p c ≡ c
+back-none p [] h = refl
+back-none zero (x ∷ c) h = ap {B = List ℕ} (λ y. y ∷ c) (omega arith)
+back-none (suc p) (x ∷ c) h = ap {B = List ℕ} (λ r. x ∷ r) (back-none p c h)
+
+-- the first n counts after a step back
+pub take-back : (n p : ℕ) (c : List ℕ) → take n (back p c) ≡ back p (take n c)
+take-back zero p c = refl
+take-back (suc n) p [] = refl
+take-back (suc n) zero (x ∷ c) = refl
+take-back (suc n) (suc p) (x ∷ c) = ap {B = List ℕ} (λ r. x ∷ r) (take-back n p c)

@@ -1,0 +1,39 @@
+-- A step back lowers the one count; where there is no such place, or its count is 0, nothing changes.
+use mathlib.Core.Path.{sym}
+use native.Mathlib.Omega.{arith}
+use mir.Syntax.{w16}
+use borrow.Kind.Array.{eInt, good-length}
+use Rattle.cuts.proofs.ValueLaws.{set-back}
+use Rattle.marks.proofs.SearchLaws.{back-beyond, back-none}
+use borrow.Author.Needs.{needs}
+use Rattle.marks.proofs.count_back.Statement.{statement}
+use Rattle.marks.proofs.count_back.Tie as tie
+
+returns : tie.Need-returns
+returns c =
+    let start = c .before in
+    sym (back-beyond _ _ (omega (arith, good-length (eInt w16) 8 (start .args .t1) _ (start .good .0))))
+
+mul-x : tie.Need-mul-x
+mul-x c = search needs
+
+array-read-x : tie.Need-array-read-x
+array-read-x c = search needs
+
+returns-2 : tie.Need-returns-2
+returns-2 c = sym (back-none _ _ (c .if2 .taken))
+
+mul-next : tie.Need-mul-next
+mul-next c = search needs
+
+array-write-next : tie.Need-array-write-next
+array-write-next c = search needs
+
+returns-3 : tie.Need-returns-3
+returns-3 c =
+    let start = c .before .before in
+    set-back (start .args .t1) (start .args .p)
+
+pub count-back-spec : {M : Type 1} → statement M
+count-back-spec =
+    tie.close (tie.spec returns mul-x array-read-x returns-2 mul-next array-write-next returns-3)

@@ -1,0 +1,87 @@
+-- After p turns the rows of the first p stations are there; one that is not refutes the whole.
+use mathlib.Core.Path.{_≡_, refl, sym, _∙_}
+use mathlib.Core.Bool.{true}
+use Prim.Native.Nat.{_+_, _-_, _≤_}
+use native.Mathlib.Nat.{le-antisymm}
+use native.Mathlib.Omega.{arith}
+use borrow.Author.Tests.{not-true, not-false}
+use Rattle.cuts.specs.Below.{every}
+use Rattle.cuts.specs.Cut.{at}
+use Rattle.cuts.proofs.BelowLaws.{every-false, every-more}
+use Rattle.marks.specs.Flat.{rowThere}
+use borrow.Author.Needs.{needs}
+use Rattle.marks.proofs.covered.Statement.{statement}
+use Rattle.marks.proofs.covered.Tie as tie
+
+abbrev Inv-loop : tie.InvT-loop
+Inv-loop cells rows bases events n p₀ p = (p ≤ n) × (n ≤ 8) × (every p (λ q. rowThere cells rows (at bases q + at events q)) ≡ true)
+
+abbrev μ-loop : tie.MeasureT-loop
+μ-loop cells rows bases events n p₀ p = n - p
+
+cast-n : tie.Need-cast-n Inv-loop μ-loop
+cast-n c = search needs
+
+loop-holds : tie.Need-loop-holds Inv-loop μ-loop
+unfolding every
+loop-holds c = (omega arith, c .before .before .pre, refl)
+
+mul-row-there : tie.Need-mul-row-there Inv-loop μ-loop
+mul-row-there c = search needs
+
+array-read-row-there : tie.Need-array-read-row-there Inv-loop μ-loop
+array-read-row-there c = search needs
+
+mul-wide : tie.Need-mul-wide Inv-loop μ-loop
+mul-wide c = search needs
+
+array-read-wide : tie.Need-array-read-wide Inv-loop μ-loop
+array-read-wide c = search needs
+
+wide-requires : tie.Need-wide-requires Inv-loop μ-loop
+wide-requires c κs = search needs
+
+row-there-requires : tie.Need-row-there-requires Inv-loop μ-loop
+row-there-requires c κs = search needs
+
+returns : tie.Need-returns Inv-loop μ-loop
+returns c = sym (every-false _ _ _ (c .before .before .before .loop-test .taken) (rw (c .before .before .wide .ensures .0) at (sym (c .before .row-there .ensures) ∙ not-true _ (c .if1 .taken))))
+
+add-p : tie.Need-add-p Inv-loop μ-loop
+add-p c = search needs
+
+loop-less : tie.Need-loop-less Inv-loop μ-loop
+loop-less c = search needs
+
+loop-again : tie.Need-loop-again Inv-loop μ-loop
+loop-again c =
+    let loop = c .before .before .before .before .loop in (
+      omega arith,
+      loop .inv .1,
+      every-more _ _ (loop .inv .2) (rw (c .before .before .wide .ensures .0) at (sym (c .before .row-there .ensures) ∙ not-false _ (c .if1 .left))),
+    )
+
+returns-2 : tie.Need-returns-2 Inv-loop μ-loop
+returns-2 c =
+    let loop = c .before .loop in
+    sym (rw (le-antisymm (loop .inv .0) (c .loop-test .left)) at (loop .inv .2))
+
+pub covered-spec : {M : Type 1} → statement M
+covered-spec =
+    tie.close
+    (tie.spec
+    Inv-loop
+    μ-loop
+    cast-n
+    loop-holds
+    mul-row-there
+    array-read-row-there
+    mul-wide
+    array-read-wide
+    wide-requires
+    row-there-requires
+    returns
+    add-p
+    loop-less
+    loop-again
+    returns-2)

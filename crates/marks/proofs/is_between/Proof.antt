@@ -1,0 +1,16 @@
+-- Each test is one side of the sum's place.
+use borrow.Author.Tests.{le-leb, lt-leb}
+use Rattle.marks.specs.Flat.{between}
+use Rattle.marks.proofs.is_between.Statement.{statement}
+use Rattle.marks.proofs.is_between.Tie as tie
+
+returns : tie.Need-returns
+unfolding between
+returns c = simp (lt-leb _ _ (c .if1 .taken))
+
+returns-2 : tie.Need-returns-2
+unfolding between
+returns-2 c = simp (le-leb _ _ (c .if1 .left))
+
+pub is-between-spec : {M : Type 1} → statement M
+is-between-spec = tie.close (tie.spec returns returns-2)

@@ -1,0 +1,134 @@
+-- Each turn takes one step of the way from its end: the place that the search finds, and the rank and counts one step back.
+use mathlib.Core.Path.{_≡_, sym, ap, _∙_}
+use Prim.Native.Nat.{_+_, _-_}
+use native.Mathlib.Omega.{arith}
+use lib.ListN.{length, take}
+use Rattle.cuts.specs.Value.{countsOf}
+use Rattle.cuts.proofs.RankLaws.{rank-lt}
+use Rattle.cuts.proofs.ValueLaws.{eight-counts}
+use Rattle.marks.proofs.BackLaws.{Walked, walked-start, walked-steps, walked-found, walked-more, walked-done, length-stridesOf}
+use borrow.Author.Needs.{needs}
+use Rattle.marks.proofs.walk_back.Statement.{statement}
+use Rattle.marks.proofs.walk_back.Tie as tie
+
+abbrev Inv-loop : tie.InvT-loop
+Inv-loop marks path₀ last events n strides counts₀ r₀ k₀ path counts r k = Walked (take n counts₀) marks path₀ events n path counts r k
+
+abbrev μ-loop : tie.MeasureT-loop
+μ-loop marks path₀ last events n strides counts₀ r₀ k₀ path counts r k = k
+
+cast-n : tie.Need-cast-n Inv-loop μ-loop
+cast-n c = search needs
+
+strides-of-requires : tie.Need-strides-of-requires Inv-loop μ-loop
+strides-of-requires c κs =
+    let start = c .before .before .before in
+    (start .pre .0, start .pre .1)
+
+loop-holds : tie.Need-loop-holds Inv-loop μ-loop
+loop-holds c =
+    let start = c .before .before .before .before .before in
+    rw (start .pre .3) (walked-start _ (start .pre .0) (eight-counts (start .args .full) _ (start .good .0)) _ _ _)
+
+slice-aggregate-first-back : tie.Need-slice-aggregate-first-back Inv-loop μ-loop
+slice-aggregate-first-back c = sym (c .before .before .loop .inv .eight)
+
+slice-aggregate-first-back-2 : tie.Need-slice-aggregate-first-back-2 Inv-loop μ-loop
+slice-aggregate-first-back-2 c =
+    let start = c .before .before .before .before .before .before .before .before .before in
+    let strides-of = c .before .before .before .before .before .strides-of in
+    sym (ap length (strides-of .ensures) ∙ length-stridesOf _ (start .pre .0))
+
+first-back-requires : tie.Need-first-back-requires Inv-loop μ-loop
+first-back-requires c κs =
+    let start = c .before .before .before .before .before .before .before .before .before in
+    let strides-of = c .before .before .before .before .before .strides-of in
+    let loop = c .before .before .before .loop in
+    let l = eight-counts (start .args .full) _ (start .good .0) in (
+      walked-steps _ (start .pre .0) l _ _ _ _ _ _ _ (loop .inv) _ (strides-of .ensures),
+      start .pre .0 .most-eight,
+      omega (arith, loop .inv .eight, start .pre .0 .most-eight),
+      omega (arith, ap length (strides-of .ensures), length-stridesOf (start .args .full) (start .pre .0), start .pre .0 .most-eight),
+      omega (arith, loop .inv .ranked, rank-lt (countsOf (start .args .full)) (take (start .args .full .n) (loop .counts)) (loop .inv .cut), start .pre .2),
+    )
+
+sub-k : tie.Need-sub-k Inv-loop μ-loop
+sub-k c = search needs
+
+add-path : tie.Need-add-path Inv-loop μ-loop
+add-path c = search needs
+
+cast-path : tie.Need-cast-path Inv-loop μ-loop
+cast-path c =
+    let start = c .before .before .before .before .before .before .before .before .before .before in
+    omega (arith, c .first-back .ensures .1, start .pre .0 .most-eight)
+
+slice-write-path : tie.Need-slice-write-path Inv-loop μ-loop
+slice-write-path c =
+    let start = c .before .before .before .before .before .before .before .before .before .before in
+    let loop = c .before .before .before .before .loop in
+    omega (arith, loop .inv .place, loop .inv .length, start .pre .4)
+
+slice-aggregate-rank-back : tie.Need-slice-aggregate-rank-back Inv-loop μ-loop
+slice-aggregate-rank-back c =
+    let start = c .before .before .before .before .before .before .before .before .before .before .before in
+    let strides-of = c .before .before .before .before .before .before .before .strides-of in
+    sym (ap length (strides-of .ensures) ∙ length-stridesOf _ (start .pre .0))
+
+rank-back-requires : tie.Need-rank-back-requires Inv-loop μ-loop
+rank-back-requires c κs =
+    let start = c .before .before .before .before .before .before .before .before .before .before .before in
+    let strides-of = c .before .before .before .before .before .before .before .strides-of in
+    let loop = c .before .before .before .before .before .loop in
+    let l = eight-counts (start .args .full) _ (start .good .0) in (
+      omega (arith, ap length (strides-of .ensures), length-stridesOf (start .args .full) (start .pre .0), start .pre .0 .most-eight),
+      walked-found _ (start .pre .0) l _ _ _ _ _ _ _ (loop .inv) _ (strides-of .ensures) _ (c .before .first-back .ensures .0),
+    )
+
+count-back-requires : tie.Need-count-back-requires Inv-loop μ-loop
+count-back-requires c κs = search needs
+
+loop-less : tie.Need-loop-less Inv-loop μ-loop
+loop-less c = search needs
+
+loop-again : tie.Need-loop-again Inv-loop μ-loop
+loop-again c =
+    let start = c .before .before .before .before .before .before .before .before .before .before .before .before .before in
+    let strides-of = c .before .before .before .before .before .before .before .before .before .strides-of in
+    let loop = c .before .before .before .before .before .before .before .loop in
+    let l = eight-counts (start .args .full) _ (start .good .0) in
+    let e : loop .k ≡ loop .k - 1 + 1 = omega arith in
+    rw (c .count-back .ensures, c .before .rank-back .ensures, strides-of .ensures)
+    (walked-more _ (start .pre .0) l _ _ _ _ _ _ _ _ (rw e at (loop .inv)) (start .pre .4) (rw (strides-of .ensures) at (c .before .before .before .first-back .ensures .0)))
+
+same-length : tie.Need-same-length Inv-loop μ-loop
+same-length c = c .before .loop .inv .length
+
+returns : tie.Need-returns Inv-loop μ-loop
+returns c =
+    let start = c .before .before .before .before .before .before .before in
+    walked-done _ (start .pre .0) (eight-counts (start .args .full) _ (start .good .0)) _ _ _ _ _ _ _ (c .before .loop .inv) (c .loop-test .left)
+
+pub walk-back-spec : {M : Type 1} → statement M
+walk-back-spec =
+    tie.close
+    (tie.spec
+    Inv-loop
+    μ-loop
+    cast-n
+    strides-of-requires
+    loop-holds
+    slice-aggregate-first-back
+    slice-aggregate-first-back-2
+    first-back-requires
+    sub-k
+    add-path
+    cast-path
+    slice-write-path
+    slice-aggregate-rank-back
+    rank-back-requires
+    count-back-requires
+    loop-less
+    loop-again
+    same-length
+    returns)
