@@ -2,14 +2,14 @@
 -- In order: what acceptance gives; computed is promised; one reply. Assumes nothing.
 use mathlib.Core.Path.{_≡_, refl, sym, ap, ap₂, _∙_}
 use mathlib.Core.Bool.{Bool, true, false, cond, false≢true}
-use mathlib.Core.Option.{none, some}
+use mathlib.Core.Option.{Option, none, some}
 use mathlib.Core.List.{List, [], _∷_, _++_, map}
 use Prim.Native.Nat.{ℕ, zero, suc, pred, _+_, _-_, _≤_, _<_}
 use native.Mathlib.Nat.{suc-pred-eq-of-pos}
 use native.Mathlib.Decide.{decLt}
 use native.Mathlib.Omega.{arith}
-use lib.ListN.{length, take, drop, List·getD-append, length-append, length-drop}
-use lib.Seq.{ext-getD, getD-take, getD-drop, drop-at}
+use lib.ListN.{length, take, drop, List·getD-append, length-append, length-drop, length-take, length-map}
+use lib.Seq.{ext-getD, getD-take, getD-drop, take-at, drop-at}
 use Rattle.cuts.specs.Below.{tab}
 use Rattle.cuts.specs.Cut.{at, total, Within}
 use Rattle.cuts.specs.Rank.{rank, box, unrank}
@@ -18,6 +18,8 @@ use Rattle.cuts.specs.Computed.{markOf, table, possOf, defOf}
 use Rattle.cuts.specs.Trace.{Formed, Stamped}
 use Rattle.cuts.specs.Value.{countsOf}
 use Rattle.cuts.specs.declared.Cut.{Cut}
+use Rattle.cuts.proofs.BelowLaws.{length-tab, getD-tab}
+use Rattle.cuts.proofs.CutLaws.{within-length}
 use Rattle.cuts.proofs.RankLaws.{rank-lt, rank-unrank, unrank-within}
 use Rattle.cuts.proofs.TabledRight.{length-tabled}
 use Rattle.cuts.proofs.MarksRight.{table-says, says-unique}
@@ -31,13 +33,16 @@ use Rattle.recording.specs.declared.Checked.{Checked}
 use Rattle.recording.proofs.CheckLaws.{accepted-not, orElse-accepted}
 use Rattle.recording.proofs.CheckRight.{scan-formed, scan-stamped}
 use Rattle.recording.proofs.AcceptedRight.{accepted-accepts}
+use Rattle.recording.proofs.FormLaws.{stations-read}
 use Rattle.condition.specs.Condition.{refusedOf, holdsOf}
 use Rattle.engine.specs.Job.{partOf, R, C, m, L, checkedJob, possIn, defIn, noCut, Verdicts, Judged, refused, accepted}
+use Rattle.marks.proofs.FlatRight.{def-length}
+use Rattle.engine.specs.Computed.{Computed, replyOf, pathAfter}
 use Rattle.engine.specs.declared.Reply.{Reply}
 
 module _ (job : List ℕ) where
   -- an accepted job's recording is accepted
-  recording-accepted : (marks path : ℕ) → checkedJob job marks path ≡ Checked.Accepted → checkedOf lead8 width8 (partOf job) ≡ Checked.Accepted
+  pub recording-accepted : (marks path : ℕ) → checkedJob job marks path ≡ Checked.Accepted → checkedOf lead8 width8 (partOf job) ≡ Checked.Accepted
   unfolding checkedJob
   recording-accepted marks path h =
       let (a, b) = orElse-accepted (atWhole (refusedOf job)) _ h in
@@ -82,6 +87,83 @@ module _ (job : List ℕ) where
 
       says : (c : List ℕ) → Within (m job) c → Says (L job) c (at marks′ (rank (m job) c))
       says c w = rw (em, List·getD-append (table (L job)) (drop (box (m job)) marks) 0 (rank (m job) c) (omega (arith, length-table, rank-lt (m job) c w))) (table-says (L job) c w)
+
+-- counts padded to eight and taken back
+padded-back : (n : ℕ) (c : List ℕ) → length c ≡ n → n ≤ 8 → take n (tab 8 (at c)) ≡ c
+padded-back n c l h =
+    let k : length (take n (tab 8 (at c))) ≡ n = simp (length-take, length-tab) (omega arith) in
+    ext-getD 0 (take n (tab 8 (at c))) c (k ∙ sym l) (λ i j. getD-take n (tab 8 (at c)) i 0 (omega arith) ∙ getD-tab 8 (at c) 0 i (omega arith))
+
+pred-suc : (l : List ℕ) → map pred (map suc l) ≡ l
+pred-suc [] = refl
+pred-suc (x ∷ l) = ap (λ (r : List ℕ). x ∷ r) (pred-suc l)
+
+at-map-suc : (l : List ℕ) (i : ℕ) → i < length l → 0 < at (map suc l) i
+at-map-suc [] i h = absurd (omega arith)
+at-map-suc (x ∷ l) zero h = omega arith
+at-map-suc (x ∷ l) (suc i) h = at-map-suc l i (omega arith)
+
+-- a reply made of two verdicts says them: of n stations and t events
+module _ (n t : ℕ) (n-most : n ≤ 8) where
+  said-poss : (poss def : Option (List ℕ)) → ((c : List ℕ) → poss ≡ some c → length c ≡ n) → possIn (replyOf n poss def) ≡ poss
+  said-poss none def h = refl
+  said-poss (some c) def h = ap some (padded-back n c (h c refl) n-most)
+
+  said-witness : (poss def : Option (List ℕ)) → ((c : List ℕ) → poss ≡ some c → length c ≡ n)
+      → replyOf n poss def .witness ≡ record { counts = tab 8 (at (cond (replyOf n poss def .poss) (countsOf (replyOf n poss def .witness)) [])); n = n }
+  said-witness none def h = refl
+  said-witness (some c) def h = ap (λ (k : List ℕ). record { counts = tab 8 (at k); n = n }) (sym (padded-back n c (h c refl) n-most))
+
+  said-def : (poss def : Option (List ℕ)) (path : List ℕ) → ((p : List ℕ) → def ≡ some p → length p ≡ t) → defIn t (replyOf n poss def) (pathAfter t def path) ≡ def
+  said-def poss none path h = refl
+  said-def poss (some p) path h = ap some (ap (map pred) (take-at (map suc p) (drop t path) t (length-map p suc ∙ h p refl)) ∙ pred-suc p)
+
+  said-stations : (poss def : Option (List ℕ)) (path : List ℕ) → ((p : List ℕ) → def ≡ some p → length p ≡ t) → replyOf n poss def .def ≡ false
+      → (i : ℕ) → i < t → 0 < at (pathAfter t def path) i
+  said-stations poss none path h e i l = absurd (false≢true (sym e))
+  said-stations poss (some p) path h e i l =
+      let k : i < length p = omega (arith, h p refl) in
+      rw (List·getD-append (map suc p) (drop t path) 0 i (omega (arith, length-map p suc))) (at-map-suc p i k)
+
+  said-rest : (def : Option (List ℕ)) (path : List ℕ) → ((p : List ℕ) → def ≡ some p → length p ≡ t) → drop t (pathAfter t def path) ≡ drop t path
+  said-rest none path h = refl
+  said-rest (some p) path h = drop-at (map suc p) (drop t path) t (length-map p suc ∙ h p refl)
+
+  said-length : (def : Option (List ℕ)) (path : List ℕ) → ((p : List ℕ) → def ≡ some p → length p ≡ t) → t ≤ length path → length (pathAfter t def path) ≡ length path
+  said-length none path h l = refl
+  said-length (some p) path h l = length-append (map suc p) (drop t path) ∙ omega (arith, length-map p suc, h p refl, length-drop t path)
+
+  said-kept : (poss def : Option (List ℕ)) (path : List ℕ) → replyOf n poss def .def ≡ true → pathAfter t def path ≡ path
+  said-kept poss none path e = refl
+  said-kept poss (some p) path e = absurd (false≢true e)
+
+-- what is computed of an accepted job whose rooms suffice are its verdicts
+pub computed-judged : (job marks path marks′ path′ : List ℕ) (r : Reply) → checkedOf lead8 width8 (partOf job) ≡ Checked.Accepted → box (m job) ≤ length marks → total (m job) ≤ length path
+    → Computed (C job) (partOf job) marks path r marks′ path′ → Verdicts job marks path r marks′ path′
+computed-judged job marks path marks′ path′ r h room room′ z =
+    rw (z .reply, z .path-after)
+    (computed-verdicts job marks (path) marks′ (pathAfter t def path) (replyOf n poss def) h (said-poss n t most poss def counted) (said-def n t most poss def path stepped) (said-witness n t most poss def counted) (z .marks-after) room (said-stations n t most poss def path stepped) (said-rest n t most def path stepped) (said-length n t most def path stepped room′) (said-kept n t most poss def path))
+  where
+    n : ℕ
+    n = length (m job)
+
+    t : ℕ
+    t = total (m job)
+
+    poss : Option (List ℕ)
+    poss = possOf (L job)
+
+    def : Option (List ℕ)
+    def = defOf (L job)
+
+    most : n ≤ 8
+    most = omega (arith, stations-read lead8 width8 (partOf job), accepted-accepts lead8 width8 (partOf job) h .n-most)
+
+    counted : (c : List ℕ) → poss ≡ some c → length c ≡ n
+    counted c e = let w : PossIs (L job) (some c) = rw e at (poss-right (L job)) in within-length (m job) c (w .within)
+
+    stepped : (p : List ℕ) → def ≡ some p → length p ≡ t
+    stepped p e = def-length (L job) p e
 
 -- two options made by a flag
 some-flag : {A : Type 0} (b b′ : Bool) (x x′ : A) → cond b (some x) none ≡ cond b′ (some x′) none → (b ≡ b′) × (b ≡ true → x ≡ x′)

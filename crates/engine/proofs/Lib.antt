@@ -1,5 +1,9 @@
+pub mod AnswerLaws
 pub mod JudgeRight
 pub mod LimitLaws
 pub mod PrepareLaws
 pub mod PrepareRight
 pub mod RoomLaws
+pub mod FullLaws
+pub mod VerdictLaws
+pub mod JudgeLaws

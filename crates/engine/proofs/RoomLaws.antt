@@ -1,13 +1,14 @@
 -- The first of the tests 9 to 12 that fails, one law for each way out. Assumes nothing.
-use mathlib.Core.Path.{_≡_, sym, _∙_}
-use mathlib.Core.Bool.{true, false}
+use mathlib.Core.Path.{_≡_, refl, sym, _∙_}
+use mathlib.Core.Bool.{Bool, true, false}
 use mathlib.Core.List.{[], _∷_}
-use Prim.Native.Nat.{ℕ, _≤_, _<_}
+use Prim.Native.Nat.{ℕ, _≤_, _<_, min}
+use native.Mathlib.Decide.{decLe}
 use native.Mathlib.Omega.{arith}
 use lib.Dec.{leb}
-use borrow.Author.Tests.{le-leb, lt-leb}
+use borrow.Author.Tests.{leb-true, le-leb, lt-leb}
 use Rattle.recording.specs.Check.{faultOf}
-use Rattle.recording.proofs.CheckLaws.{Pass, no-test, and-then, pass-fault, fault-next, fault-here}
+use Rattle.recording.proofs.CheckLaws.{Pass, no-test, and-then, Numbered, no-number, and-number, pass-fault, fault-pass, fault-next, fault-here}
 use Rattle.condition.specs.declared.Condition.{Condition}
 use Rattle.engine.specs.Job.{noneAbove, roomTests}
 
@@ -34,3 +35,39 @@ module _ (c : Condition) (n b t marks path : ℕ) where
         pub room-0 : t ≤ path → 0 ≡ faultOf (roomTests c n b t marks path)
         unfolding roomTests
         room-0 h = sym (pass-fault (and-then asked (and-then (le-leb b 65536 small) (and-then (le-leb b marks fits) (and-then (le-leb t path h) no-test)))))
+
+  -- no fault: every test passed
+  pub record Suffices : Type 0 where
+    pub asked : noneAbove c n ≡ true
+    pub small : b ≤ 65536
+    pub fits : b ≤ marks
+    pub holds : t ≤ path
+
+  pub no-fault : faultOf (roomTests c n b t marks path) ≡ 0 → Suffices
+  unfolding roomTests
+  no-fault h = go (fault-pass (roomTests c n b t marks path) numbered h)
+    where
+      numbered : Numbered (roomTests c n b t marks path)
+      numbered =
+          let h₉ : 0 < 9 = omega arith in
+          let h₁₀ : 0 < 10 = omega arith in
+          let h₁₁ : 0 < 11 = omega arith in
+          let h₁₂ : 0 < 12 = omega arith in
+          and-number h₉ (and-number h₁₀ (and-number h₁₁ (and-number h₁₂ no-number)))
+
+      go : Pass (roomTests c n b t marks path) → Suffices
+      go (and-then t₁ (and-then t₂ (and-then t₃ (and-then t₄ no-test)))) = record {
+        asked = t₁;
+        small = leb-true b 65536 t₂;
+        fits = leb-true b marks t₃;
+        holds = leb-true t path t₄;
+      }
+
+-- a box held at 65,537 is tested like the box itself
+pub fault-ceiling : (c : Condition) (n b t marks path : ℕ) → faultOf (roomTests c n (min b 65537) t marks path) ≡ faultOf (roomTests c n b t marks path)
+fault-ceiling c n b t marks path = go (noneAbove c n) refl (decLe b 65536)
+  where
+    go : (a : Bool) → noneAbove c n ≡ a → Dec (b ≤ 65536) → faultOf (roomTests c n (min b 65537) t marks path) ≡ faultOf (roomTests c n b t marks path)
+    go false h d = sym (room-9 c n (min b 65537) t marks path h) ∙ room-9 c n b t marks path h
+    go true h (yes d) = let e : min b 65537 ≡ b = omega arith in rw e refl
+    go true h (no d) = sym (room-10 c n (min b 65537) t marks path h (omega arith)) ∙ room-10 c n b t marks path h (omega arith)

@@ -74,6 +74,14 @@ defIn t r path = cond (r .def) none (some (map pred (take t path)))
 abbrev pub noCut : Cut
 noCut = record { counts = replicate 8 0; n = 0 }
 
+-- a refusal, and nothing beside it
+abbrev pub refusedBy : Refusal → Reply
+refusedBy x = record { answer = Checked.Refused x; poss = false; witness = noCut; def = false }
+
+-- a refusal that is about no record
+abbrev pub wholly : ℕ → Refusal
+wholly k = record { number = k; station = 0; event = 0 }
+
 -- what holds of an accepted job, of the reply and the rooms before and after
 pub record Verdicts (job marks path : List ℕ) (r : Reply) (marks′ path′ : List ℕ) : Type 0 where
   -- the verdicts and their evidence, over consistent cuts
@@ -96,6 +104,6 @@ pub record Verdicts (job marks path : List ℕ) (r : Reply) (marks′ path′ : 
 -- the promise: a refusal and nothing changed, or the verdicts
 pub data Judged (job marks path : List ℕ) : Reply → List ℕ → List ℕ → Type 0 where
   refused : {x : Refusal} → checkedJob job (length marks) (length path) ≡ Checked.Refused x
-      → Judged job marks path (record { answer = Checked.Refused x; poss = false; witness = noCut; def = false }) marks path
+      → Judged job marks path (refusedBy x) marks path
   accepted : {r : Reply} {marks′ path′ : List ℕ} → checkedJob job (length marks) (length path) ≡ Checked.Accepted → r .answer ≡ Checked.Accepted
       → Verdicts job marks path r marks′ path′ → Judged job marks path r marks′ path′

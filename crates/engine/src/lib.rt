@@ -1,7 +1,7 @@
 // The reply to a job: both verdicts with their evidence, and its printed text.
 ghost use mathlib.Core.Path.{_≡_};
-ghost use Rattle.text.specs.Text.{takenBy, textIn};
-ghost use Rattle.engine.specs.Job.{Judged};
+ghost use Rattle.text.specs.Text.{Printed};
+ghost use Rattle.engine.specs.Job.{Judged, refusedBy, wholly};
 ghost use Rattle.engine.specs.Answer.{textOf};
 use cuts::Cut;
 use recording::Checked;
@@ -48,7 +48,7 @@ pub fn judge(job: &[u8], marks: &mut [u8], path: &mut [u8]) -> Reply
 
 // The printed text of the reply to a job, into the front of the room; its length, 0 if the room is too short.
 pub fn answer(job: &[u8], room: &mut [u8]) -> usize
-    ensures { λ r. ⌜ (r ≡ takenBy (textOf (now (job .entry))) (now (room .entry))) × (now (room .exit) ≡ textIn (textOf (now (job .entry))) (now (room .entry))) ⌝ }
+    ensures { λ r. ⌜ Printed (textOf (now (job .entry))) (now (room .entry)) r (now (room .exit)) ⌝ }
 {
     let mut marks = [0u8; 65536];
     let mut path = [0u8; 4088];
@@ -62,7 +62,9 @@ pub fn answer(job: &[u8], room: &mut [u8]) -> usize
 }
 
 // A refusal, and nothing beside it.
-fn refused(x: Refusal) -> Reply {
+fn refused(x: Refusal) -> Reply
+    ensures { λ r. ⌜ r ≡ refusedBy x ⌝ }
+{
     Reply {
         answer: Checked::Refused(x),
         poss: false,
@@ -75,7 +77,9 @@ fn refused(x: Refusal) -> Reply {
 }
 
 // A refusal that is about no record.
-fn whole(number: u8) -> Refusal {
+fn whole(number: u8) -> Refusal
+    ensures { λ r. ⌜ r ≡ wholly number ⌝ }
+{
     Refusal {
         number: number,
         station: 0,
