@@ -1,9 +1,10 @@
 pub mod AnswerLaws
+pub mod AnswerRight
+pub mod FullLaws
+pub mod JudgeLaws
 pub mod JudgeRight
 pub mod LimitLaws
 pub mod PrepareLaws
 pub mod PrepareRight
 pub mod RoomLaws
-pub mod FullLaws
 pub mod VerdictLaws
-pub mod JudgeLaws

@@ -39,9 +39,9 @@ pub fn judge(job: &[u8], marks: &mut [u8], path: &mut [u8]) -> Reply
         return refused(x);
     }
     let full = recording::full_cut(s);
-    let k = rooms::fault(c, full, marks.len(), path.len());
-    if k != 0 {
-        return refused(whole(k));
+    let fault = rooms::fault(c, full, marks.len(), path.len());
+    if fault != 0 {
+        return refused(whole(fault));
     }
     verdict::verdicts(c, s, full, &stamps, &levels, marks, path)
 }
