@@ -26,21 +26,24 @@ use Rattle.recording.specs.Form.{bytesFor, nAt, stationBit, recordSize, recordB
 use Rattle.recording.specs.Check.{faultOf, atRecord, atWhole, scanTo, originOk, numberOk, stampOk, scanRecords, checkedRecords, checkedOf, refusal}
 use Rattle.recording.specs.declared.Checked.{Checked}
 use Rattle.condition.specs.Condition.{boundOf, between, lies, sumAsked, inside, holdsBy, holdsOf, raisedOf, kindAt, kAt, lowAt, highAt, askedAt, windowLow, windowHigh, windowOk, conditionOk, kindOf, windowOf, conditionOf, refusedOf}
+use Rattle.text.specs.Text.{decimalTo, numbers, possText, defText}
 use Rattle.engine.specs.Job.{partOf, noneAbove, roomTests, C, m, L, checkedJob, possIn, Judged, refused, accepted}
+use Rattle.engine.specs.Answer.{marksRoom, pathRoom, possLine, defLine, textOf}
 use Rattle.engine.specs.Computed.{given, evidence}
 use Rattle.engine.proofs.JudgeRight.{computed-verdicts, judged-unique}
 use Rattle.engine.proofs.RoomLaws.{room-0}
 use Rattle.engine.specs.declared.Reply.{Reply}
-use Rattle.settled.specs.Examples.{Answer, refuses, answers, Row, row, rows, replyTo, marksOf, pathOf, eventsOf, laid, Settled, Each}
+use Rattle.settled.specs.Examples.{Answer, refuses, answers, Row, row, rows, input, output, replyTo, marksOf, pathOf, eventsOf, textTo, laid, Settled, Each}
 
 -- what is computed of a row: the refusal number of its condition and the answer of its recording's checks; where it is not refused, whether no station
--- above n is asked and the box is within its limit, m, the marks and the verdicts; and of the evidence that it states, the counts as they stand in a cut
--- of eight, the length of the path (T if there is none), and its stations without 0
+-- above n is asked, the box is within its limit and T within the program's room; m, the marks and the verdicts; and of the evidence that the row states,
+-- the counts as they stand in a cut of eight, the length of the path (T if there is none), and its stations, each taken for its place and back
 record Found : Type 0 where
   refusal-number : ℕ
   checked : Checked
   asked : Bool
   small : Bool
+  short : Bool
   counts : List ℕ
   marks : List ℕ
   poss : Option (List ℕ)
@@ -55,6 +58,7 @@ foundOf job (refuses k station event) = record {
   checked = checkedOf lead8 width8 (partOf job);
   asked = true;
   small = true;
+  short = true;
   counts = [];
   marks = [];
   poss = none;
@@ -68,6 +72,7 @@ foundOf job (answers m₀ poss def marks) = record {
   checked = checkedOf lead8 width8 (partOf job);
   asked = noneAbove (C job) (length (m job));
   small = leb (box (m job)) 65536;
+  short = leb (total (m job)) pathRoom;
   counts = m job;
   marks = table (L job);
   poss = possOf (L job);
@@ -89,6 +94,7 @@ wanted (refuses k station event) = record {
   checked = refusal k station event;
   asked = true;
   small = true;
+  short = true;
   counts = [];
   marks = [];
   poss = none;
@@ -102,6 +108,7 @@ wanted (answers m₀ poss def marks) = record {
   checked = Checked.Accepted;
   asked = true;
   small = true;
+  short = true;
   counts = m₀;
   marks = marks;
   poss = poss;
@@ -185,21 +192,32 @@ module _ (job m₀ marks : List ℕ) (poss def : Option (List ℕ)) (found : fou
       cut : List ℕ → ℕ → Cut
       cut c n = record { counts = tab 8 (at c); n = n }
 
-  module _ (room path : List ℕ) (fit : length marks ≤ length room) (fit′ : total m₀ ≤ length path) where
-    checked-found : checkedJob job (length room) (length path) ≡ Checked.Accepted
-    unfolding checkedJob atWhole
-    checked-found = rw (ap (λ f. f .refusal-number) found, ap (λ f. f .checked) found, sym rooms) refl
-      where
-        rooms : 0 ≡ faultOf (roomTests (C job) (length (m job)) (box (m job)) (total (m job)) (length room) (length path))
-        rooms = room-0 _ _ _ _ _ _ (ap (λ f. f .asked) found) (leb-true _ _ (ap (λ f. f .small) found)) (omega (arith, box-is)) (omega (arith, total-is))
+  -- it is accepted, in rooms of so many bytes
+  checked-found : (marks′ path′ : ℕ) → box (m job) ≤ marks′ → total (m job) ≤ path′ → checkedJob job marks′ path′ ≡ Checked.Accepted
+  unfolding checkedJob atWhole
+  checked-found marks′ path′ fit fit′ = rw (ap (λ f. f .refusal-number) found, ap (λ f. f .checked) found, sym rooms) refl
+    where
+      rooms : 0 ≡ faultOf (roomTests (C job) (length (m job)) (box (m job)) (total (m job)) marks′ path′)
+      rooms = room-0 _ _ _ _ _ _ (ap (λ f. f .asked) found) (leb-true _ _ (ap (λ f. f .small) found)) fit fit′
 
+  pub verdicts-printed : textOf job ≡ textTo (answers m₀ poss def marks)
+  unfolding textOf
+  verdicts-printed = rw (checked-found marksRoom pathRoom (leb-true _ _ (ap (λ f. f .small) found)) (leb-true _ _ (ap (λ f. f .short) found)), ap (λ f. f .poss) found, ap (λ f. f .def) found) (lines poss def (stations .1))
+    where
+      lines : (o d : Option (List ℕ)) → map suc (map pred (evidence d)) ≡ evidence d → possLine o ++ defLine (places d) ≡ possText (given o) (evidence o) ++ defText (not (given d)) (evidence d)
+      lines none none h = refl
+      lines (some c) none h = refl
+      lines none (some path) h = ap (λ l. possText false [] ++ defText false l) h
+      lines (some c) (some path) h = ap (λ l. possText true c ++ defText false l) h
+
+  module _ (room path : List ℕ) (fit : length marks ≤ length room) (fit′ : total m₀ ≤ length path) where
     marks-found : laid marks room ≡ table (L job) ++ drop (box (m job)) room
     marks-found = rw (marks-are, box-is) refl
 
     pub verdicts-permitted : Judged job room path reply (laid marks room) (laid (evidence def) path)
     verdicts-permitted =
         accepted
-        checked-found
+        (checked-found (length room) (length path) (omega (arith, box-is)) (omega (arith, total-is)))
         refl
         (computed-verdicts
         job
@@ -227,10 +245,18 @@ permitted-by job (refuses k station event) found marks path fit fit′ =
     refused {x = record { number = k; station = station; event = event }} (rw (ap (λ f. f .refusal-number) found, ap (λ f. f .checked) found) refl)
 permitted-by job (answers m₀ poss def marks₀) found marks path fit fit′ = verdicts-permitted job m₀ marks₀ poss def found marks path fit fit′
 
+printed-by : (job : List ℕ) (a : Answer) → foundOf job a ≡ wanted a → textOf job ≡ textTo a
+unfolding textOf checkedJob atWhole
+printed-by job (refuses k station event) found = rw (ap (λ f. f .refusal-number) found, ap (λ f. f .checked) found) refl
+printed-by job (answers m₀ poss def marks) found = verdicts-printed job m₀ marks poss def found
+
 settled-by : (job : List ℕ) (a : Answer) → foundOf job a ≡ wanted a → Settled (row job a)
-settled-by job a found marks path fit fit′ =
-    let p = permitted-by job a found marks path fit fit′ in
-    record { permitted = p; only = λ r marks′ path′ j. judged-unique job marks path r (replyTo a) marks′ path′ _ _ j p }
+settled-by job a found = record {
+  judged = λ marks path fit fit′.
+      let p = permitted-by job a found marks path fit fit′ in
+      record { permitted = p; only = λ r marks′ path′ j. judged-unique job marks path r (replyTo a) marks′ path′ _ _ j p };
+  printed = printed-by job a found;
+}
 
 settled-each : (table : List Row) → map (λ r. foundOf (r .job) (r .answer)) table ≡ map (λ r. wanted (r .answer)) table → Each Settled table
 settled-each [] e = tt
@@ -244,3 +270,8 @@ found-each = refl
 -- the statement about the table
 pub settled : Each Settled rows
 settled = settled-each rows found-each
+
+-- the whole example, byte for byte
+pub whole-example : textOf input ≡ output
+unfolding possText defText numbers decimalTo
+whole-example = settled .0 .printed ∙ refl

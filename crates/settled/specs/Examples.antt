@@ -1,5 +1,6 @@
 -- The settled examples of document 01 that are marked P, 1 to 11, as one table: jobs of bytes, and the whole reply to each.
--- In order: recordings and conditions as bytes; answers and rows; the table; what an answer says; what is said of each row. `SettledRight` proves it.
+-- In order: recordings and conditions as bytes; answers and rows; the table; the whole example; what an answer says; what is said of each row.
+-- `SettledRight` proves it.
 use mathlib.Core.Path.{_≡_}
 use mathlib.Core.Bool.{false, not}
 use mathlib.Core.Option.{Option, none, some}
@@ -10,7 +11,9 @@ use Rattle.cuts.specs.Below.{tab}
 use Rattle.cuts.specs.Cut.{at, total}
 use Rattle.recording.specs.Check.{refusal}
 use Rattle.recording.specs.declared.Checked.{Checked}
+use Rattle.text.specs.Text.{refusedText, possText, defText}
 use Rattle.engine.specs.Job.{Judged, noCut}
+use Rattle.engine.specs.Answer.{textOf}
 use Rattle.engine.specs.Computed.{given, evidence}
 use Rattle.engine.specs.declared.Reply.{Reply}
 
@@ -100,6 +103,13 @@ rows =
     ∷ row (sum ++ eleven) (answers (1 ∷ 2 ∷ []) poss-no (def-no (1 ∷ 2 ∷ 2 ∷ [])) (3 ∷ 3 ∷ 0 ∷ 3 ∷ 0 ∷ 3 ∷ []))
     ∷ []
 
+-- the whole example of document 01: its input, and its output, `poss yes 1 0` and `def yes`, each line ended by a newline
+abbrev pub input : List ℕ
+input = sum ++ A
+
+abbrev pub output : List ℕ
+output = 112 ∷ 111 ∷ 115 ∷ 115 ∷ 32 ∷ 121 ∷ 101 ∷ 115 ∷ 32 ∷ 49 ∷ 32 ∷ 48 ∷ 10 ∷ 100 ∷ 101 ∷ 102 ∷ 32 ∷ 121 ∷ 101 ∷ 115 ∷ 10 ∷ []
+
 -- the reply that says so: "eight counts with the number of stations; counts beyond n are 0", all of them 0 where there is no witness
 abbrev pub replyTo : Answer → Reply
 replyTo (refuses k station event) = record { answer = refusal k station event; poss = false; witness = noCut; def = false }
@@ -120,6 +130,11 @@ abbrev pub eventsOf : Answer → ℕ
 eventsOf (refuses k station event) = 0
 eventsOf (answers m poss def marks) = total m
 
+-- the text that is printed of it
+abbrev pub textTo : Answer → List ℕ
+textTo (refuses k station event) = refusedText k station event
+textTo (answers m poss def marks) = possText (given poss) (evidence poss) ++ defText (not (given def)) (evidence def)
+
 -- a room with bytes laid into its front, otherwise unchanged
 abbrev pub laid : List ℕ → List ℕ → List ℕ
 laid front room = front ++ drop (length front) room
@@ -130,9 +145,10 @@ pub record Settles (job : List ℕ) (a : Answer) (marks path : List ℕ) : Type 
   pub only : (r : Reply) (marks′ path′ : List ℕ) → Judged job marks path r marks′ path′
       → (r ≡ replyTo a) × (marks′ ≡ laid (marksOf a) marks) × (path′ ≡ laid (pathOf a) path)
 
--- so it is in all rooms that suffice
-abbrev pub Settled : Row → Type 0
-Settled r = (marks path : List ℕ) → length (marksOf (r .answer)) ≤ length marks → eventsOf (r .answer) ≤ length path → Settles (r .job) (r .answer) marks path
+-- so it is in all rooms that suffice, and the text of the promise of `answer` is the row's
+pub record Settled (r : Row) : Type 0 where
+  pub judged : (marks path : List ℕ) → length (marksOf (r .answer)) ≤ length marks → eventsOf (r .answer) ≤ length path → Settles (r .job) (r .answer) marks path
+  pub printed : textOf (r .job) ≡ textTo (r .answer)
 
 -- P holds of each row of a table
 abbrev pub Each : (Row → Type 0) → List Row → Type 0
