@@ -206,7 +206,9 @@ static double now(void) {
     return t.tv_sec + t.tv_nsec * 1e-9;
 }
 
-static int measure(const char *name, size_t n, const size_t *m, unsigned percent, const struct ask *c) {
+static int measure(const char *name, size_t n, const size_t *m, unsigned percent, const struct ask *asks) {
+    struct ask limited = *asks, *c = &limited;
+    for (size_t p = n; p < MAXN; p++) limited.asked[p] = false; // a station above n is refused
     static struct run r;
     static uint8_t job[22500], marks[BOX], path[ROOM];
     make_run(&r, n, m, percent, 7);

@@ -21,18 +21,17 @@ use Rattle.cuts.proofs.BelowLaws.{first-is, length-tab, getD-tab}
 use Rattle.cuts.proofs.CutLaws.{within-length, within-at}
 use Rattle.cuts.proofs.RankLaws.{unrank-within}
 use Rattle.recording.specs.Form.{mAt, nAt, lead8, width8, stationBit}
-use Rattle.recording.specs.Check.{checkedOf, atWhole}
+use Rattle.recording.specs.Check.{checkedOf}
 use Rattle.recording.specs.declared.Checked.{Checked}
 use Rattle.recording.proofs.FormLaws.{counts-read, stations-read}
-use Rattle.recording.proofs.CheckLaws.{orElse-accepted}
 use Rattle.recording.proofs.AcceptedRight.{accepted-accepts}
-use Rattle.condition.specs.Condition.{refusedOf}
 use Rattle.text.specs.Text.{decimalTo, numbers, refusedText, verdictText}
 use Rattle.text.proofs.LineLaws.{length-refused}
 use Rattle.text.proofs.TextRight.{text-bound}
 use Rattle.engine.specs.Job.{partOf, m, L, checkedJob}
 use Rattle.engine.specs.Answer.{marksRoom, pathRoom, possLine, defLine, textBy, textOf}
 use Rattle.engine.specs.Computed.{given, evidence}
+use Rattle.engine.proofs.JudgeRight.{recording-accepted}
 
 -- no number of a list is above b
 abbrev Most : ℕ → List ℕ → Type 0
@@ -158,13 +157,6 @@ refused-length : (number station event : ℕ) → length (refusedText number sta
 unfolding numbers
 refused-length number station event =
     rw (length-refused number station event) (simp length-append (omega (arith, length-decimalTo 20 number, length-decimalTo 20 station, length-decimalTo 20 event)))
-
--- an accepted job's recording is accepted
-recording-accepted : (job : List ℕ) (marks path : ℕ) → checkedJob job marks path ≡ Checked.Accepted → checkedOf lead8 width8 (partOf job) ≡ Checked.Accepted
-unfolding checkedJob
-recording-accepted job marks path e =
-    let (condition, rest) = orElse-accepted (atWhole (refusedOf job)) _ e in
-    orElse-accepted (checkedOf lead8 width8 (partOf job)) _ rest .0
 
 pub text-fits : (job : List ℕ) → length (textOf job) ≤ 4140
 unfolding textOf

@@ -22,7 +22,7 @@ returns c =
     let start = c .before .before .before .before .before .before in
     let room : 4140 ≡ length (now (start .args .room)) = start .pre in
     let fits : length (textOf (now (start .args .job))) ≤ length (now (start .args .room)) = omega (arith, room, text-fits (now (start .args .job))) in
-    taken-whole _ _ fits _ _ (c .before .before .answer .ensures .0) (c .before .before .answer .ensures .1)
+    taken-whole _ _ fits _ _ (c .before .before .answer .ensures .taken) (c .before .before .answer .ensures .room)
 
 pub printed-spec : {M : Type 1} → statement M
 printed-spec = tie.close (tie.spec answer-requires same-length returns)
