@@ -13,8 +13,8 @@ use lib.IntN.{ℤ, pos, negsuc, subℕ, _+ℤ_}
 use borrow.Author.Tests.{le-leb}
 use Rattle.levels.specs.Level.{twos, bitsOf, isLevel, levelOf, excessOf}
 use Rattle.levels.proofs.LevelLaws.{sub-le, sub-eq, sub-add, levelOf-excess, excess-lt, level-bits, level-field}
-use Rattle.cuts.specs.Below.{every, sumTo}
-use Rattle.cuts.proofs.BelowLaws.{true-every, sumTo-same, getD-tab}
+use Rattle.cuts.specs.Below.{sumTo}
+use Rattle.cuts.proofs.BelowLaws.{every-same, true-every, sumTo-same, getD-tab}
 use Rattle.cuts.specs.Cut.{at}
 use Rattle.cuts.proofs.ValueRight.{replies-equal}
 use Rattle.condition.specs.Condition.{kindAt, kAt, lowAt, highAt, windowLow, windowHigh, conditionOk, kindOf, windowOf, conditionOf, refusedOf, readOf}
@@ -117,11 +117,6 @@ module _ (s : List ℕ) where
       go : (k : Bool) → conditionOk s ≡ k → k ≡ true
       go true d = refl
       go false d = absurd (refused-0 .0 z .1 (not-kept-broken s d))
-
-every-same : (n : ℕ) (f g : ℕ → Bool) → ((q : ℕ) → q < n → f q ≡ g q) → every n f ≡ every n g
-unfolding every
-every-same zero f g h = refl
-every-same (suc n) f g h = rw (every-same n f g (λ q l. h q (omega arith)), h n (omega arith)) refl
 
 module _ (c : Condition) (v : ℕ → ℤ) where
   -- "With none asked it holds"

@@ -63,6 +63,12 @@ pub every-more : (n : ℕ) (f : ℕ → Bool) → every n f ≡ true → f n ≡
 unfolding every
 every-more n f h e = rw (add-one n, h, e) refl
 
+-- two tests of all numbers below n that agree there
+pub every-same : (n : ℕ) (f g : ℕ → Bool) → ((q : ℕ) → q < n → f q ≡ g q) → every n f ≡ every n g
+unfolding every
+every-same zero f g h = refl
+every-same (suc n) f g h = rw (every-same n f g (λ q l. h q (omega arith)), h n (omega arith)) refl
+
 -- what is so of the first of the numbers from p to n
 pub record First (f : ℕ → Bool) (p n r : ℕ) : Type 0 where
   pub low : p ≤ r

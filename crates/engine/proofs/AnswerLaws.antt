@@ -1,10 +1,10 @@
 -- The text printed of what `judge` promises is the text of the job's reply. In order: what a refused and an accepted reply say of the job; the lines of two
 -- verdicts; the text. Assumes nothing.
-use mathlib.Core.Path.{_≡_, refl, sym, ap, ap₂, _∙_}
+use mathlib.Core.Path.{_≡_, refl, sym, ap₂, _∙_}
 use mathlib.Core.Bool.{Bool, true, false, cond}
 use mathlib.Core.Option.{none, some}
 use mathlib.Core.List.{List, [], _∷_, _++_, map}
-use Prim.Native.Nat.{ℕ, zero, suc, pred, _≤_, _<_}
+use Prim.Native.Nat.{ℕ, suc, pred, _≤_, _<_}
 use native.Mathlib.Nat.{suc-pred-eq-of-pos}
 use native.Mathlib.Omega.{arith}
 use lib.ListN.{length, take, length-take}
@@ -22,10 +22,10 @@ use Rattle.recording.specs.declared.Checked.{Checked}
 use Rattle.recording.proofs.CheckLaws.{accepted-not, orElse-accepted, atWhole-accepted}
 use Rattle.condition.specs.Condition.{refusedOf}
 use Rattle.condition.proofs.ConditionRight.{refused-0}
-use Rattle.text.specs.Text.{refusedText, possText, defText, verdictText, Printed}
+use Rattle.text.specs.Text.{refusedText, possText, defText, verdictText}
 use Rattle.engine.specs.Job.{partOf, m, L, checkedJob, possIn, defIn, Verdicts, Judged, refused, accepted}
 use Rattle.engine.specs.Answer.{possLine, defLine, textOf}
-use Rattle.engine.specs.Prepare.{Short, firstOf}
+use Rattle.engine.specs.Prepare.{firstOf}
 use Rattle.engine.specs.declared.Reply.{Reply}
 use Rattle.engine.proofs.FullLaws.{short-full, total-full}
 use Rattle.engine.proofs.JudgeRight.{recording-accepted}

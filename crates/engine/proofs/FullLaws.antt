@@ -3,12 +3,12 @@
 use mathlib.Core.Path.{_≡_, refl, sym, ap, _∙_}
 use mathlib.Core.Bool.{true}
 use mathlib.Core.List.{List}
-use Prim.Native.Nat.{ℕ, _+_, _*_, _≤_, _<_, min}
+use Prim.Native.Nat.{ℕ, _*_, _≤_, _<_, min}
 use native.Mathlib.Decide.{decLt}
 use native.Mathlib.Omega.{arith}
 use lib.ListN.{length, List·getD-eq-default}
 use borrow.Author.Tests.{le-leb}
-use Rattle.cuts.specs.Below.{tab, sumTo}
+use Rattle.cuts.specs.Below.{tab}
 use Rattle.cuts.specs.Cut.{at, total}
 use Rattle.cuts.specs.Rank.{box}
 use Rattle.cuts.specs.Value.{countsOf, FullCut, boxOf}

@@ -13,16 +13,15 @@ use Rattle.cuts.specs.Rank.{box}
 use Rattle.cuts.specs.Value.{boxOf}
 use Rattle.cuts.specs.declared.Cut.{Cut}
 use Rattle.recording.specs.Recording as recorded
-use Rattle.recording.specs.Form.{recordingOf, lead8, width8}
-use Rattle.recording.specs.Check.{faultOf, atWhole, orElse, checkedOf}
-use Rattle.recording.specs.Decode.{fullOf, stampsFit, stampsIn, levelsFit, levelsIn}
+use Rattle.recording.specs.Form.{lead8, width8}
+use Rattle.recording.specs.Check.{faultOf, atWhole, checkedOf}
+use Rattle.recording.specs.Decode.{fullOf}
 use Rattle.recording.specs.Decoded.{decodedBy, Decodes}
 use Rattle.recording.specs.declared.Refusal.{Refusal}
 use Rattle.recording.specs.declared.Checked.{Checked}
 use Rattle.recording.specs.declared.Decoded.{Decoded}
 use Rattle.recording.proofs.CheckLaws.{atWhole-0, atWhole-fault}
 use Rattle.condition.specs.Condition.{conditionOf, refusedOf, readOf}
-use Rattle.condition.specs.declared.Condition.{Condition}
 use Rattle.condition.specs.declared.Reading.{Reading}
 use Rattle.condition.proofs.ConditionRight.{read-refused, refused-0}
 use Rattle.condition.proofs.FieldLaws.{readOf-good}

@@ -1,25 +1,15 @@
 -- The limits of a sum, where those of the condition are 32,768 above: one law for each way out. Assumes nothing.
-use mathlib.Core.Path.{_≡_, refl, sym, ap₂, _∙_}
-use mathlib.Core.Bool.{Bool, false, _&&_}
+use mathlib.Core.Path.{_≡_, refl, ap₂}
+use mathlib.Core.Bool.{false, _&&_}
 use Prim.Native.Nat.{ℕ, zero, suc, _+_, _-_, _≤_, _<_}
-use native.Mathlib.Nat.{lt-of-not-le}
-use native.Mathlib.Decide.{decLe}
 use native.Mathlib.Omega.{arith}
 use lib.Dec.{leb}
-use borrow.Author.Tests.{le-leb, lt-leb}
+use borrow.Author.Tests.{lt-leb}
 use Rattle.cuts.proofs.BelowLaws.{and-false}
+use Rattle.levels.proofs.LevelLaws.{leb-same}
 use Rattle.condition.specs.Weigh.{within}
 use Rattle.condition.specs.declared.Limits.{Limits}
 use Rattle.marks.specs.Flat.{between}
-
-leb-same : (a b c d : ℕ) → (a ≤ b → c ≤ d) → (c ≤ d → a ≤ b) → leb a b ≡ leb c d
-leb-same a b c d f g = go (decLe a b)
-  where
-    go : Dec (a ≤ b) → leb a b ≡ leb c d
-    go (yes h) = le-leb a b h ∙ sym (le-leb c d (f h))
-    go (no h) =
-        let n : d < c = omega (arith, lt-of-not-le (λ (k : c ≤ d). h (g k))) in
-        lt-leb a b (lt-of-not-le h) ∙ sym (lt-leb c d n)
 
 -- no sum is within limits that end below it
 pub shift-none : (l : Limits) → l .most < 32768 → (s : ℕ) → between 1 0 s ≡ within l s

@@ -2,7 +2,7 @@
 -- the start, where there is nothing to compare; and the sum of what the stations add decides the condition.
 -- In order: cells of the needs; consistency; what the stations add; the condition. Assumes nothing.
 use mathlib.Core.Path.{_≡_, refl, sym, ap, ap₂, _∙_}
-use mathlib.Core.Bool.{Bool, true, false, _&&_, _||_, cond, false≢true}
+use mathlib.Core.Bool.{Bool, true, false, _||_, cond, false≢true}
 use mathlib.Core.List.{List, _++_}
 use Prim.Native.Nat.{ℕ, zero, suc, _+_, _-_, _*_, _≤_, _<_}
 use native.Mathlib.Nat.{lt-of-not-le}
@@ -12,15 +12,15 @@ use lib.IntN.{ℤ}
 use lib.ListN.{length, List·getD-append}
 use lib.Dec.{leb, ltb, eqb}
 use borrow.Author.Tests.{le-leb, le-ltb, eq-eqb, ne-eqb}
-use Rattle.cuts.specs.Below.{every, sumTo, tab}
+use Rattle.cuts.specs.Below.{sumTo, tab}
 use Rattle.cuts.specs.Cut.{at, Within}
 use Rattle.cuts.specs.Trace.{Messages, Stamps, Levels, agrees, atCut}
 use Rattle.cuts.specs.declared.Cut.{Cut}
-use Rattle.cuts.proofs.BelowLaws.{sumTo-scale, sumTo-same, getD-tab}
+use Rattle.cuts.proofs.BelowLaws.{every-same, sumTo-scale, sumTo-same, getD-tab}
 use Rattle.cuts.proofs.CutLaws.{within-at}
 use Rattle.levels.specs.Level.{levelOf}
 use Rattle.condition.specs.Condition.{windowAt, holdsOf}
-use Rattle.condition.specs.Weigh.{weighOf, limitsOf, within}
+use Rattle.condition.specs.Weigh.{weighOf, limitsOf}
 use Rattle.condition.specs.declared.Condition.{Condition}
 use Rattle.condition.specs.declared.Limits.{Limits}
 use Rattle.condition.proofs.ConditionRight.{unasked-level}
@@ -29,12 +29,6 @@ use Rattle.marks.specs.Flat.{flatConsistent, flatHolds, rowMet, between}
 use Rattle.engine.specs.Prepare.{stationNeed, stationWeight, stretches, rowsTo, firstOf, needsTo, weightsTo, Shifts}
 use Rattle.engine.proofs.PrepareLaws.{need-start, need-own, need-other, stretches-at, length-stretches}
 use Rattle.recording.proofs.SumLaws.{sumTo-part}
-
--- two tests of all numbers below n that agree there
-every-same : (n : ℕ) (f g : ℕ → Bool) → ((q : ℕ) → q < n → f q ≡ g q) → every n f ≡ every n g
-unfolding every
-every-same zero f g h = refl
-every-same (suc n) f g h = ap₂ _&&_ (every-same n f g (λ q l. h q (omega arith))) (h n (omega arith))
 
 -- number j of stretch p, in a table that begins with n stretches
 front-at : (size : ℕ → ℕ) (f : ℕ → ℕ → ℕ) (n p j : ℕ) (rest : List ℕ) → p < n → j < size p → at (stretches size f n ++ rest) (sumTo p size + j) ≡ f p j

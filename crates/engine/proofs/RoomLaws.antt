@@ -1,11 +1,9 @@
 -- The first of the tests 9 to 12 that fails, one law for each way out. Assumes nothing.
 use mathlib.Core.Path.{_≡_, refl, sym, _∙_}
 use mathlib.Core.Bool.{Bool, true, false}
-use mathlib.Core.List.{[], _∷_}
 use Prim.Native.Nat.{ℕ, _≤_, _<_, min}
 use native.Mathlib.Decide.{decLe}
 use native.Mathlib.Omega.{arith}
-use lib.Dec.{leb}
 use borrow.Author.Tests.{leb-true, le-leb, lt-leb}
 use Rattle.recording.specs.Check.{faultOf}
 use Rattle.recording.proofs.CheckLaws.{Pass, no-test, and-then, Numbered, no-number, and-number, pass-fault, fault-pass, fault-next, fault-here}

@@ -1,28 +1,28 @@
 -- The verdicts read off the tables made of an accepted recording are the recording's. In order: the tables have every row; their lattice agrees with the
 -- recording's; what is filled, found and walked. Assumes nothing.
 use mathlib.Core.Path.{_≡_, refl, sym, ap, ap₂, _∙_}
-use mathlib.Core.Bool.{Bool, true, false, _&&_, _||_, not, cond}
+use mathlib.Core.Bool.{Bool, true, false, _||_, not}
 use mathlib.Core.Option.{Option, none, some}
 use mathlib.Core.List.{List, _++_}
 use Prim.Native.Nat.{ℕ, suc, _+_, _-_, _*_, _≤_, _<_}
 use native.Mathlib.Omega.{arith}
 use lib.ListN.{length, drop, replicate, length-append, length-drop, length-replicate}
-use lib.Dec.{leb, ltb}
+use lib.Dec.{ltb}
 use borrow.Author.Tests.{le-leb, lt-ltb, le-ltb}
 use Rattle.cuts.specs.Below.{every, tab}
 use Rattle.cuts.specs.Cut.{at, total, Within}
 use Rattle.cuts.specs.Rank.{box}
 use Rattle.cuts.specs.Computed.{table, possOf, defOf}
-use Rattle.cuts.specs.Value.{countsOf, isFull}
+use Rattle.cuts.specs.Value.{countsOf}
 use Rattle.cuts.specs.declared.Cut.{Cut}
 use Rattle.cuts.specs.declared.Moved.{Moved}
-use Rattle.cuts.proofs.BelowLaws.{getD-tab, every-true, true-every, or-second}
+use Rattle.cuts.proofs.BelowLaws.{getD-tab, every-true, true-every}
 use Rattle.cuts.proofs.CutLaws.{within-at}
 use Rattle.cuts.proofs.ValueRight.{isFull-is}
 use Rattle.levels.specs.Level.{levelOf}
 use Rattle.recording.specs.Recording as recorded
-use Rattle.recording.specs.Form.{recordingOf, lead8, width8, nAt, mAt, firstAt}
-use Rattle.recording.specs.Decode.{startsOf, stampsIn, levelsIn}
+use Rattle.recording.specs.Form.{recordingOf, lead8, width8, nAt}
+use Rattle.recording.specs.Decode.{startsOf}
 use Rattle.recording.specs.declared.Checked.{Checked}
 use Rattle.recording.proofs.DecodeRight.{starts-level, stamps-stamp, levels-level}
 use Rattle.condition.specs.Condition.{windowAt}
@@ -30,12 +30,12 @@ use Rattle.condition.specs.Weigh.{limitsOf}
 use Rattle.condition.specs.declared.Condition.{Condition}
 use Rattle.condition.specs.declared.Limits.{Limits}
 use Rattle.marks.specs.Flat.{flat, rowThere, fillable, filled, witnessOf, walkable, walked}
-use Rattle.marks.proofs.FlatRight.{Agreeing, table-same, poss-same, def-same, witness-poss, walked-def, movedOf, laidIn, isPath}
+use Rattle.marks.proofs.FlatRight.{Agreeing, table-same, witness-poss, walked-def, movedOf, laidIn, isPath}
 use Rattle.engine.specs.Job.{noneAbove}
 use Rattle.engine.specs.Prepare.{Short, Shifts, rowsTo, firstOf, needsTo, weightsTo, stationNeed, stationWeight}
 use Rattle.engine.specs.Computed.{Settled, Computed, latticeOf, replyOf, pathAfter}
 use Rattle.engine.specs.declared.Reply.{Reply}
-use Rattle.engine.proofs.FullLaws.{n-full, n-most, stations-full, eight-full, short-full, full-full, counts-full, count-full, count-both, first-full, stamps-there, levels-there}
+use Rattle.engine.proofs.FullLaws.{n-full, n-most, stations-full, short-full, full-full, counts-full, count-full, count-both, first-full, stamps-there, levels-there}
 use Rattle.engine.proofs.PrepareLaws.{rows-long, rowsTo-more, rowsTo-le}
 use Rattle.engine.proofs.PrepareRight.{consistent-same, holds-same}
 

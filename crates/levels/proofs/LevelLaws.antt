@@ -15,7 +15,7 @@ use Rattle.levels.specs.Level.{twos, bitsOf, isLevel, fieldOf, levelOf, 
 use Rattle.levels.specs.declared.Fitted.{Fitted}
 
 -- two tests that say the same
-leb-same : (a b c d : ℕ) → (a ≤ b → c ≤ d) → (c ≤ d → a ≤ b) → leb a b ≡ leb c d
+pub leb-same : (a b c d : ℕ) → (a ≤ b → c ≤ d) → (c ≤ d → a ≤ b) → leb a b ≡ leb c d
 leb-same a b c d f g = go (decLe a b)
   where
     go : Dec (a ≤ b) → leb a b ≡ leb c d

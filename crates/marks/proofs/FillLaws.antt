@@ -17,7 +17,7 @@ use Rattle.cuts.specs.Rank.{rank, unrank, box}
 use Rattle.cuts.specs.Computed.{leads, met, markOf, tabled}
 use Rattle.cuts.specs.Value.{countsOf, FullCut}
 use Rattle.cuts.specs.declared.Cut.{Cut}
-use Rattle.cuts.proofs.BelowLaws.{and-false, every-true, true-every, sumTo-same, length-tab, getD-tab}
+use Rattle.cuts.proofs.BelowLaws.{and-false, every-same, every-true, true-every, sumTo-same, length-tab, getD-tab}
 use Rattle.cuts.proofs.CutLaws.{zeros-of, within-at}
 use Rattle.cuts.proofs.RankLaws.{unrank-within, rank-unrank, rank-zeros}
 use Rattle.cuts.proofs.TabledRight.{length-tabled}
@@ -26,7 +26,7 @@ use Rattle.marks.specs.declared.Task.{Task}
 use Rattle.marks.specs.declared.Row.{Row}
 use Rattle.marks.specs.Flat.{rowMet, between, flatConsistent, flatHolds}
 use Rattle.marks.specs.Rows.{cutAt, stridesOf, leadsBack, othersMet, othersNeed, othersAdd, latticeOf, marksTo, Ready, RowAt, rowMark, rowMarks, NeedsThere, WeightsThere, Eights, RowReady}
-use Rattle.marks.proofs.SearchLaws.{tests-same, every-same, every-split, sumTo-split, any-same, leb-mostTo}
+use Rattle.marks.proofs.SearchLaws.{tests-same, every-split, sumTo-split, any-same, leb-mostTo}
 use Rattle.marks.proofs.RowLaws.{replicate-snoc, length-unrank, length-countsOf}
 use Rattle.marks.proofs.BackLaws.{length-stridesOf, steps-back, leads-same}
 

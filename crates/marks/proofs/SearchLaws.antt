@@ -23,11 +23,6 @@ tests-same true b h g = sym (h refl)
 tests-same false true h g = g refl
 tests-same false false h g = refl
 
-pub every-same : (n : ℕ) (f g : ℕ → Bool) → ((q : ℕ) → q < n → f q ≡ g q) → every n f ≡ every n g
-unfolding every
-every-same zero f g h = refl
-every-same (suc n) f g h = ap₂ _&&_ (every-same n f g (λ q l. h q (omega arith))) (h n (omega arith))
-
 pub and-both : {a b : Bool} → a ≡ true → b ≡ true → (a && b) ≡ true
 and-both h g = rw (h, g) refl
 

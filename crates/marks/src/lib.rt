@@ -483,11 +483,11 @@ fn count_back(counts: [u16; 8], p: usize) -> [u16; 8]
         return counts;
     }
     let mut next = counts;
-    let x = counts[p];
-    if x < 1 {
+    let count = counts[p];
+    if count < 1 {
         return counts;
     }
-    next[p] = x - 1;
+    next[p] = count - 1;
     next
 }
 

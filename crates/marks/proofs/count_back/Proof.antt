@@ -14,11 +14,11 @@ returns c =
     let start = c .before in
     sym (back-beyond _ _ (omega (arith, good-length (eInt w16) 8 (start .args .t1) _ (start .good .0))))
 
-mul-x : tie.Need-mul-x
-mul-x c = search needs
+mul-count : tie.Need-mul-count
+mul-count c = search needs
 
-array-read-x : tie.Need-array-read-x
-array-read-x c = search needs
+array-read-count : tie.Need-array-read-count
+array-read-count c = search needs
 
 returns-2 : tie.Need-returns-2
 returns-2 c = sym (back-none _ _ (c .if2 .taken))
@@ -36,4 +36,4 @@ returns-3 c =
 
 pub count-back-spec : {M : Type 1} → statement M
 count-back-spec =
-    tie.close (tie.spec returns mul-x array-read-x returns-2 mul-next array-write-next returns-3)
+    tie.close (tie.spec returns mul-count array-read-count returns-2 mul-next array-write-next returns-3)
