@@ -247,7 +247,7 @@ int main(void) {
     bad |= measure("4 of 15, together", 4, (size_t[]){15, 15, 15, 15}, 10, &together);
     bad |= measure("mixed 63 15 7 3 1, few", 5, (size_t[]){63, 15, 7, 3, 1}, 10, &sum);
     bad |= measure("4 of 7, no message", 4, (size_t[]){7, 7, 7, 7}, 0, &sum);
-    bad |= measure("2 of 127, no message", 2, (size_t[]){127, 127}, 0, &sum);
+    bad |= measure("15 15 7 7, no message", 4, (size_t[]){15, 15, 7, 7}, 0, &sum);
     bad |= measure("4 of 15, no message", 4, (size_t[]){15, 15, 15, 15}, 0, &sum);
     return bad;
 }
