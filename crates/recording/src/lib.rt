@@ -1,12 +1,11 @@
 // The packed recording of document 01: checked, looked up, laid out flat, written.
 ghost use mathlib.Core.Path.{_≡_};
-ghost use lib.ListN.{length};
 ghost use Rattle.recording.specs.Form.{lead8, width8};
 ghost use Rattle.recording.specs.Check.{checkedOf};
 ghost use Rattle.recording.specs.Lookup.{lookupOf};
 ghost use Rattle.recording.specs.Decoded.{Decodes};
 ghost use Rattle.recording.specs.Write.{Wrote};
-ghost use Rattle.recording.specs.Decode.{fullOf, startsOf, stampsFit, stampsIn, levelsFit, levelsIn};
+ghost use Rattle.recording.specs.Decode.{fullOf, startsOf};
 
 mod form;
 mod records;
@@ -108,38 +107,6 @@ pub fn starts(s: &[u8]) -> [u16; 8]
 {
     let n = form::stations(LEAD, s);
     form::starts(LEAD, WIDTH, s, n)
-}
-
-// The table of stamps, eight places a record in file order, into the front of the room; whether the room has it.
-pub fn stamps(s: &[u8], room: &mut [u16]) -> bool
-    ensures { λ r. ⌜ (r ≡ stampsFit lead8 width8 (now (s .entry)) (length (now (room .entry)))) × (now (room .exit) ≡ stampsIn lead8 width8 (now (s .entry)) (now (room .entry))) ⌝ }
-{
-    let n = form::stations(LEAD, s);
-    if 8 < n {
-        return false;
-    }
-    let total = form::total(LEAD, WIDTH, s, n);
-    if room.len() < 8 * total {
-        return false;
-    }
-    form::lay_stamps(LEAD, WIDTH, s, n, total, room);
-    true
-}
-
-// The table of levels as excess numbers, records in file order, into the front of the room; whether the room has it.
-pub fn levels(s: &[u8], room: &mut [u16]) -> bool
-    ensures { λ r. ⌜ (r ≡ levelsFit lead8 width8 (now (s .entry)) (length (now (room .entry)))) × (now (room .exit) ≡ levelsIn lead8 width8 (now (s .entry)) (now (room .entry))) ⌝ }
-{
-    let n = form::stations(LEAD, s);
-    if 8 < n {
-        return false;
-    }
-    let total = form::total(LEAD, WIDTH, s, n);
-    if room.len() < total {
-        return false;
-    }
-    form::lay_levels(LEAD, WIDTH, s, n, total, room);
-    true
 }
 
 // What is handed in, packed into the front of the room: n stations' counts and start levels, and the records in file order, n counts to a stamp.
