@@ -7,7 +7,7 @@ use mathlib.Core.List.{List, [], _∷_, _++_}
 use Prim.Native.Nat.{ℕ, suc, _+_, _*_, _/_, _%_, _≤_, _<_}
 use native.Mathlib.Omega.{arith}
 use lib.IntN.{ℤ}
-use lib.ListN.{List·getD-append}
+use lib.ListN.{length, length-append, List·getD-append}
 use Rattle.levels.specs.Level.{isLevel}
 use Rattle.cuts.specs.Below.{sumTo, tab}
 use Rattle.cuts.specs.Cut.{at}
@@ -55,11 +55,15 @@ module _ (g : Given) (m firsts : List ℕ) (m-are : m ≡ tab 8 (at (g .counts))
         ∙ getD-tab (8 * at firsts n) (givenCell n (g .stamps)) 0 (8 * r + q) l
         ∙ sym (rw (a, b) at (cell-in n (g .stamps) (8 * r + q) (rw b k))))
 
+    rows-room : 8 * at firsts n ≤ length rows
+    rows-room = rw (rows-are, length-append) (omega (arith, length-tab (8 * at firsts n) (givenCell n (g .stamps))))
+
     pub given-tables : Tables R n m firsts rows
     given-tables = record {
       stations = stations-given g;
       most = high;
       counts = λ p h. m-at p h ∙ sym (count-given g p h);
+      room = λ p hp. omega (arith, rows-room, first-at p (omega arith), m-at p hp, first-at n (omega arith), first-part g p (at (g .counts) p) hp (omega arith));
       places = λ p e q hp he hq.
           let k : e < at (g .counts) p = omega (arith, m-at p hp) in
           rw (first-at p (omega arith)) (place-given (firstGiven g p + e) q (omega (arith, first-part g p (suc e) hp k)) hq ∙ sym (stamp-given g p e q hp k hq));

@@ -21,7 +21,7 @@ use Rattle.levels.specs.declared.Fitted.{Fitted}
 use Rattle.cuts.specs.Cut.{at}
 use Rattle.cuts.proofs.BelowLaws.{or-right}
 use Rattle.recording.specs.Check.{refusal, atRecord, scanTo}
-use Rattle.recording.specs.Fault.{tableFault}
+use Rattle.faults.specs.Fault.{tableFault}
 use Rattle.recording.specs.Tables.{levelFault, givenFault, scanStation, givenCell}
 use Rattle.recording.specs.Pack.{levelBits}
 use Rattle.recording.specs.declared.Refusal.{Refusal}

@@ -10,7 +10,7 @@ use Rattle.levels.specs.Level.{isLevel}
 use Rattle.cuts.specs.Cut.{at}
 use Rattle.recording.specs.Recording.{messages}
 use Rattle.recording.specs.Check.{faultOf, atRecord, atWhole, orElse, scanTo, scanRecords}
-use Rattle.recording.specs.Fault.{tableFault}
+use Rattle.faults.specs.Fault.{tableFault}
 use Rattle.recording.specs.Write.{Given, recordingGiven, givenTests, writerTests}
 use Rattle.recording.specs.declared.Checked.{Checked}
 

@@ -8,7 +8,6 @@ ghost use lib.ListN.{length, getD, drop};
 ghost use Rattle.levels.specs.Level.{isLevel};
 ghost use Rattle.cuts.specs.Below.{every, sumTo, tab};
 ghost use Rattle.cuts.specs.Cut.{at};
-ghost use Rattle.recording.specs.Fault.{ReceiptRoom};
 ghost use Rattle.recording.specs.Write.{Wrote};
 ghost use Rattle.recording.specs.Tables.{wholeFault, checkedLists, levelFault, givenFault, scanStation, scanGiven, givenCell};
 ghost use Rattle.recording.specs.Pack.{turns, levelBits, putPadding, putCount, putStation, putRecord, stationTurn, recordTurn, packInto};
@@ -271,13 +270,13 @@ pub fn given_fault(
     p: usize,
     e: usize,
 ) -> u8
-    requires { ⌜ (n ≤ 8) × (p < n) × (length (now rows) ≤ 32704) × ReceiptRoom n m firsts (length (now rows)) p e ⌝ }
+    requires { ⌜ (n ≤ 8) × (p < n) × (length (now rows) ≤ 32704) × (8 * (at firsts p + e) + 8 ≤ length (now rows)) ⌝ }
     ensures { λ r. ⌜ r ≡ givenFault n m firsts (now (rows .entry)) (now (origins .entry)) (now (numbers .entry)) (now (levels .entry)) p e ⌝ }
 {
     let r = firsts[p] + e;
     let o = byte_at(origins, r);
     let k = form::wide(number_at(numbers, r));
-    let f = records::message_fault(n, m, firsts, rows, o, k, p, e);
+    let f = faults::message_fault(n, m, firsts, rows, o, k, p, e);
     with_level(f, level_at(levels, r))
 }
 

@@ -33,7 +33,7 @@ loop-holds c = (omega arith, scan-none _)
 given-fault-requires : tie.Need-given-fault-requires Inv-loop μ-loop
 given-fault-requires c κs =
     let a = c .before .before .before .before .before .before in
-    (a .pre .0, a .pre .1, a .pre .2, record { own-room = omega (arith, a .pre .3 (a .args .p) (a .pre .1)); sender-room = a .pre .3 })
+    (a .pre .0, a .pre .1, a .pre .2, omega (arith, a .pre .3 (a .args .p) (a .pre .1)))
 
 add-t19 : tie.Need-add-t19 Inv-loop μ-loop
 add-t19 c = search needs

@@ -1,9 +1,9 @@
 -- A local step is tested for the number 0, and then as if it had received event 0, whose stamp is zeros.
 use mathlib.Core.Path.{_∙_}
 use borrow.Author.Needs.{needs}
-use Rattle.recording.proofs.FaultLaws.{localFault-number, localFault-stamp}
-use Rattle.recording.proofs.records.local_fault.Statement.{statement}
-use Rattle.recording.proofs.records.local_fault.Tie as tie
+use Rattle.faults.proofs.FaultLaws.{localFault-number, localFault-stamp}
+use Rattle.faults.proofs.local_fault.Statement.{statement}
+use Rattle.faults.proofs.local_fault.Tie as tie
 
 returns : tie.Need-returns
 returns c = localFault-number _ _ _ _ _ _ (c .if1 .taken)

@@ -2,9 +2,9 @@
 use mathlib.Core.Path.{_∙_}
 use native.Mathlib.Omega.{arith}
 use borrow.Author.Needs.{needs}
-use Rattle.recording.proofs.FaultLaws.{placeAt-start, placeAt-event}
-use Rattle.recording.proofs.records.place.Statement.{statement}
-use Rattle.recording.proofs.records.place.Tie as tie
+use Rattle.faults.proofs.FaultLaws.{placeAt-start, placeAt-event}
+use Rattle.faults.proofs.place.Statement.{statement}
+use Rattle.faults.proofs.place.Tie as tie
 
 returns : tie.Need-returns
 returns c = (placeAt-start _ _ _ _ (c .if1 .taken), omega arith)

@@ -1,11 +1,10 @@
 -- The tests go in the order of `receiptFault`, and each `return` is the law of the first that fails; what is left is the stamp's fault.
 use mathlib.Core.Path.{_∙_}
-use Prim.Native.Nat.{_-_}
 use native.Mathlib.Omega.{arith}
 use borrow.Author.Needs.{needs}
-use Rattle.recording.proofs.FaultLaws.{receiptFault-above, receiptFault-own, receiptFault-none, receiptFault-late, receiptFault-stamp}
-use Rattle.recording.proofs.records.receipt_fault.Statement.{statement}
-use Rattle.recording.proofs.records.receipt_fault.Tie as tie
+use Rattle.faults.proofs.FaultLaws.{receiptFault-above, receiptFault-own, receiptFault-none, receiptFault-late, receiptFault-stamp}
+use Rattle.faults.proofs.receipt_fault.Statement.{statement}
+use Rattle.faults.proofs.receipt_fault.Tie as tie
 
 returns : tie.Need-returns
 returns c = receiptFault-above _ _ _ _ _ _ _ _ (omega arith)
@@ -47,9 +46,7 @@ array-read-stamp-fault-2 : tie.Need-array-read-stamp-fault-2
 array-read-stamp-fault-2 c = search needs
 
 stamp-fault-requires : tie.Need-stamp-fault-requires
-stamp-fault-requires c κs =
-    let a = c .before .before .before .before .before .before in
-    (omega arith, a .pre .4 .own-room, omega (arith, a .pre .4 .sender-room (a .args .station - 1) (omega arith)))
+stamp-fault-requires c κs = search needs
 
 returns-5 : tie.Need-returns-5
 returns-5 c =

@@ -1,8 +1,8 @@
 -- Each arm knows in which range the origin lies, and that decides the tests of `sourceOf`.
 use native.Mathlib.Omega.{arith}
-use Rattle.recording.proofs.FaultLaws.{sourceOf-local, sourceOf-from, sourceOf-unknown}
-use Rattle.recording.proofs.records.source_of.Statement.{statement}
-use Rattle.recording.proofs.records.source_of.Tie as tie
+use Rattle.faults.proofs.FaultLaws.{sourceOf-local, sourceOf-from, sourceOf-unknown}
+use Rattle.faults.proofs.source_of.Statement.{statement}
+use Rattle.faults.proofs.source_of.Tie as tie
 
 returns : tie.Need-returns
 returns c = sourceOf-local _ (c .match .keys1)

@@ -3,8 +3,8 @@ use mathlib.Core.Path.{sym, ap, _∙_}
 use native.Mathlib.Omega.{arith}
 use Rattle.cuts.specs.Below.{own}
 use Rattle.cuts.proofs.BelowLaws.{own-self, own-other}
-use Rattle.recording.proofs.records.own_place.Statement.{statement}
-use Rattle.recording.proofs.records.own_place.Tie as tie
+use Rattle.faults.proofs.own_place.Statement.{statement}
+use Rattle.faults.proofs.own_place.Tie as tie
 
 returns : tie.Need-returns
 returns c = (sym (ap (own (c .before .args .p)) (sym (c .if1 .taken)) ∙ own-self (c .before .args .p)), omega arith)

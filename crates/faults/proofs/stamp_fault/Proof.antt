@@ -1,4 +1,4 @@
--- After q turns the first q places of the stamp are right; a place that is not is a fault, and after n turns none is.
+-- Rows that lack one of the stamps are a fault. After q turns the first q places of the stamp are right; a place that is not is a fault, and after n turns none is.
 use mathlib.Core.Path.{_≡_, refl, _∙_}
 use mathlib.Core.Bool.{true}
 use Prim.Native.Nat.{_-_, _≤_}
@@ -7,16 +7,28 @@ use borrow.Author.Needs.{needs}
 use borrow.Author.Tests.{eq-eqb, ne-eqb}
 use Rattle.cuts.specs.Below.{every}
 use Rattle.cuts.proofs.BelowLaws.{every-more}
-use Rattle.recording.specs.Fault.{placeRight}
-use Rattle.recording.proofs.FaultLaws.{placeRight-is, stampFault-wrong, stampFault-right}
-use Rattle.recording.proofs.records.stamp_fault.Statement.{statement}
-use Rattle.recording.proofs.records.stamp_fault.Tie as tie
+use Rattle.faults.specs.Fault.{placeRight}
+use Rattle.faults.proofs.FaultLaws.{placeRight-is, stampFault-short, stampFault-unsent, stampFault-wrong, stampFault-right}
+use Rattle.faults.proofs.stamp_fault.Statement.{statement}
+use Rattle.faults.proofs.stamp_fault.Tie as tie
 
 abbrev Inv-loop : tie.InvT-loop
 Inv-loop n rows p first e sender k q₀ q = (q ≤ n) × (every q (placeRight rows p first e sender k) ≡ true)
 
 abbrev μ-loop : tie.MeasureT-loop
 μ-loop n rows p first e sender k q₀ q = n - q
+
+left-requires : tie.Need-left-requires Inv-loop μ-loop
+left-requires c κs = search needs
+
+returns : tie.Need-returns Inv-loop μ-loop
+returns c = stampFault-short _ _ _ _ _ _ _ (omega arith)
+
+left-requires-2 : tie.Need-left-requires-2 Inv-loop μ-loop
+left-requires-2 c κs = search needs
+
+returns-2 : tie.Need-returns-2 Inv-loop μ-loop
+returns-2 c = stampFault-unsent _ _ _ _ _ _ _ (omega arith)
 
 loop-holds : tie.Need-loop-holds Inv-loop μ-loop
 unfolding every
@@ -40,14 +52,14 @@ larger-requires c κs = search needs
 own-place-requires : tie.Need-own-place-requires Inv-loop μ-loop
 own-place-requires c κs = search needs
 
-add-if1 : tie.Need-add-if1 Inv-loop μ-loop
-add-if1 c = search needs
+add-if3 : tie.Need-add-if3 Inv-loop μ-loop
+add-if3 c = search needs
 
-returns : tie.Need-returns Inv-loop μ-loop
-returns c =
+returns-3 : tie.Need-returns-3 Inv-loop μ-loop
+returns-3 c =
     let b = c .before .before .before in
     stampFault-wrong _ _ _ _ _ _ _ _ (b .before .before .before .loop-test .taken)
-    (placeRight-is _ _ _ _ _ _ _ _ _ _ _ _ (b .place3 .ensures .0) (b .before .before .place .ensures .0) (b .before .place2 .ensures .0) (c .before .before .larger .ensures) (c .before .own-place .ensures .0) ∙ ne-eqb _ _ (c .if1 .taken))
+    (placeRight-is _ _ _ _ _ _ _ _ _ _ _ _ (b .place3 .ensures .0) (b .before .before .place .ensures .0) (b .before .place2 .ensures .0) (c .before .before .larger .ensures) (c .before .own-place .ensures .0) ∙ ne-eqb _ _ (c .if3 .taken))
 
 add-q : tie.Need-add-q Inv-loop μ-loop
 add-q c = search needs
@@ -60,11 +72,11 @@ loop-again c =
     let b = c .before .before .before in (
       omega arith,
       every-more _ _ (b .before .before .before .before .loop .inv .1)
-          (placeRight-is _ _ _ _ _ _ _ _ _ _ _ _ (b .place3 .ensures .0) (b .before .before .place .ensures .0) (b .before .place2 .ensures .0) (c .before .before .larger .ensures) (c .before .own-place .ensures .0) ∙ eq-eqb _ _ (c .if1 .left)),
+          (placeRight-is _ _ _ _ _ _ _ _ _ _ _ _ (b .place3 .ensures .0) (b .before .before .place .ensures .0) (b .before .place2 .ensures .0) (c .before .before .larger .ensures) (c .before .own-place .ensures .0) ∙ eq-eqb _ _ (c .if3 .left)),
     )
 
-returns-2 : tie.Need-returns-2 Inv-loop μ-loop
-returns-2 c = stampFault-right _ _ _ _ _ _ _ _ (c .before .loop .inv .0) (c .loop-test .left) (c .before .loop .inv .1)
+returns-4 : tie.Need-returns-4 Inv-loop μ-loop
+returns-4 c = stampFault-right _ _ _ _ _ _ _ _ (omega arith) (omega arith) (c .before .loop .inv .0) (c .loop-test .left) (c .before .loop .inv .1)
 
 pub stamp-fault-spec : {M : Type 1} → statement M
 stamp-fault-spec =
@@ -72,6 +84,10 @@ stamp-fault-spec =
     (tie.spec
     Inv-loop
     μ-loop
+    left-requires
+    returns
+    left-requires-2
+    returns-2
     loop-holds
     place-requires
     place-requires-2
@@ -79,9 +95,9 @@ stamp-fault-spec =
     place-requires-3
     larger-requires
     own-place-requires
-    add-if1
-    returns
+    add-if3
+    returns-3
     add-q
     loop-less
     loop-again
-    returns-2)
+    returns-4)
