@@ -1,6 +1,6 @@
 -- The fault of a record worked out of flat tables is the first of the record's tests that fails, for any recording that the tables have: a local step is
 -- a receipt of event 0, whose stamp is zeros; an origin that names no other station fails the first test whatever the tables have.
--- In order: what the tables have; a stamp's fault; a record's. The reader's tables are in `FaultRight`, the writer's in `GivenRight`. Assumes nothing.
+-- In order: what the tables have; a stamp's fault; a record's. The reader's tables are in `FaultRight`, the writer's in `GivenRight` of `writer`. Assumes nothing.
 use mathlib.Core.Path.{_≡_, refl, sym, ap, ap₂, _∙_}
 use mathlib.Core.Bool.{Bool, true, false, _&&_, _||_, not, cond}
 use mathlib.Core.List.{List, [], _∷_}

@@ -1,15 +1,13 @@
-// The packed recording of document 01: checked, looked up, laid out flat, written.
+// The packed recording of document 01: checked, looked up, laid out flat.
 ghost use mathlib.Core.Path.{_≡_};
 ghost use Rattle.recording.specs.Form.{lead8, width8};
 ghost use Rattle.recording.specs.Check.{checkedOf};
 ghost use Rattle.recording.specs.Lookup.{lookupOf};
 ghost use Rattle.recording.specs.Decoded.{Decodes};
-ghost use Rattle.recording.specs.Write.{Wrote};
 ghost use Rattle.recording.specs.Decode.{fullOf, startsOf};
 
 mod form;
 mod records;
-mod writer;
 
 use cuts::Cut;
 
@@ -39,12 +37,6 @@ pub struct Found {
 pub enum Decoded {
     Done,
     Short,
-    Refused(Refusal),
-}
-
-// The bytes written, or the refusal.
-pub enum Written {
-    Done(usize),
     Refused(Refusal),
 }
 
@@ -107,31 +99,4 @@ pub fn starts(s: &[u8]) -> [u16; 8]
 {
     let n = form::stations(LEAD, s);
     form::starts(LEAD, WIDTH, s, n)
-}
-
-// What is handed in, packed into the front of the room: n stations' counts and start levels, and the records in file order, n counts to a stamp.
-pub fn write(
-    n: u8,
-    counts: &[u8],
-    starts: &[i16],
-    origins: &[u8],
-    numbers: &[u16],
-    levels: &[i16],
-    stamps: &[u16],
-    room: &mut [u8],
-) -> Written
-    ensures { λ r. ⌜ Wrote lead8 width8 (record { n = n; counts = now (counts .entry); starts = now (starts .entry); origins = now (origins .entry); numbers = now (numbers .entry); levels = now (levels .entry); stamps = now (stamps .entry) }) (now (room .entry)) (now (room .exit)) r ⌝ }
-{
-    writer::write_form(
-        LEAD,
-        WIDTH,
-        n as usize,
-        counts,
-        starts,
-        origins,
-        numbers,
-        levels,
-        stamps,
-        room,
-    )
 }
