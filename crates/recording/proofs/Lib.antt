@@ -12,6 +12,5 @@ pub mod DecodeRight
 pub mod FaultRight
 pub mod TablesRight
 pub mod WholeLaws
-pub mod LookupLaws
 pub mod SettledBytes
 pub mod ReadRight

@@ -1,7 +1,6 @@
 pub mod Recording
 pub mod Form
 pub mod Check
-pub mod Lookup
 pub mod Decode
 pub mod Fault
 pub mod ExampleBytes

@@ -1,8 +1,7 @@
-// The packed recording of document 01: checked, looked up, laid out flat.
+// The packed recording of document 01: checked, laid out flat.
 ghost use mathlib.Core.Path.{_≡_};
 ghost use Rattle.recording.specs.Form.{lead8, width8};
 ghost use Rattle.recording.specs.Check.{checkedOf};
-ghost use Rattle.recording.specs.Lookup.{lookupOf};
 ghost use Rattle.recording.specs.Decoded.{Decodes};
 ghost use Rattle.recording.specs.Decode.{fullOf, startsOf};
 
@@ -22,15 +21,6 @@ pub struct Refusal {
 pub enum Checked {
     Accepted,
     Refused(Refusal),
-}
-
-// One record, or the refusal, and zeros beside it.
-pub struct Found {
-    pub answer: Checked,
-    pub origin: u8,
-    pub number: u16,
-    pub level: i16,
-    pub stamp: [u16; 8],
 }
 
 // The tables are laid; a room is too short for its table; or the refusal.
@@ -72,13 +62,6 @@ pub fn decode(s: &[u8], stamps: &mut [u16], levels: &mut [u16]) -> Decoded
     form::copy(&rows, 8 * total, stamps);
     form::lay_levels(LEAD, WIDTH, s, n, total, levels);
     Decoded::Done
-}
-
-// Event `event` of `station`, after the checks.
-pub fn lookup(s: &[u8], station: u8, event: u16) -> Found
-    ensures { λ r. ⌜ r ≡ lookupOf lead8 width8 (now (s .entry)) station event ⌝ }
-{
-    records::look_up(LEAD, WIDTH, s, station, event)
 }
 
 // The n and m that the bytes name, as the full cut.

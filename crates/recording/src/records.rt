@@ -1,15 +1,13 @@
-// The checks of a recording, and the lookup of one record.
+// The checks of a recording.
 ghost use mathlib.Core.Path.{_≡_};
 ghost use Prim.Native.Nat.{_≤_, _<_};
 ghost use lib.ListN.{length};
-ghost use Rattle.recording.specs.Form.{nAt, mAt, recordingOf};
+ghost use Rattle.recording.specs.Form.{mAt, recordingOf};
 ghost use Rattle.recording.specs.Check.{checkedRecords, checkedOf};
-ghost use Rattle.recording.specs.Lookup.{lookupOf, foundOf, notFound};
 ghost use Rattle.recording.specs.Decode.{Laid};
 ghost use Rattle.recording.specs.Decoded.{CheckedRows};
 ghost use Rattle.recording.specs.Fault.{formFault, faultAt, checkedStation};
 use crate::Checked;
-use crate::Found;
 use crate::Refusal;
 use crate::form;
 
@@ -154,66 +152,5 @@ pub fn whole(number: u8) -> Refusal
         number: number,
         station: 0,
         event: 0,
-    }
-}
-
-// Event `event` of `station`, after the checks.
-pub fn look_up(lead: usize, w: usize, s: &[u8], station: u8, event: u16) -> Found
-    requires { ⌜ (4 ≤ lead) × (lead ≤ 8) × (1 ≤ w) × (w ≤ 9) ⌝ }
-    ensures { λ r. ⌜ r ≡ lookupOf lead w (now (s .entry)) station event ⌝ }
-{
-    let v = check_form(lead, w, s);
-    if let Checked::Refused(x) = v {
-        return not_found(x);
-    }
-    let n = form::stations(lead, s);
-    if station < 1 {
-        return not_found(whole(15));
-    }
-    if n < station as usize {
-        return not_found(whole(15));
-    }
-    let p = (station - 1) as usize;
-    if form::events(lead, w, s, p) < event {
-        return not_found(whole(15));
-    }
-    found(lead, w, s, n, p, event as usize)
-}
-
-// The refusal, and zeros beside it.
-pub fn not_found(x: Refusal) -> Found
-    ensures { λ r. ⌜ r ≡ notFound x ⌝ }
-{
-    Found {
-        answer: Checked::Refused(x),
-        origin: 0,
-        number: 0,
-        level: 0,
-        stamp: [0u16; 8],
-    }
-}
-
-// Event e of the station at place p.
-pub fn found(lead: usize, w: usize, s: &[u8], n: usize, p: usize, e: usize) -> Found
-    requires { ⌜ (lead ≤ 8) × (1 ≤ w) × (w ≤ 9) × (n ≡ nAt lead (now s)) × (n ≤ 8) × (p < n) × (e ≤ mAt lead w (now s) p) ⌝ }
-    ensures { λ r. ⌜ r ≡ foundOf (recordingOf lead w (now (s .entry))) p e ⌝ }
-{
-    if e < 1 {
-        return Found {
-            answer: Checked::Accepted,
-            origin: 0,
-            number: 0,
-            level: levels::signed(form::start_bits(lead, w, s, p)),
-            stamp: [0u16; 8],
-        };
-    }
-    let firsts = form::firsts(lead, w, s, n);
-    let r = firsts[p] + (e - 1);
-    Found {
-        answer: Checked::Accepted,
-        origin: form::origin(lead, w, s, n, r),
-        number: form::number(lead, w, s, n, r),
-        level: levels::signed(form::level(lead, w, s, n, r)),
-        stamp: form::stamp(lead, w, s, n, r),
     }
 }

@@ -2,18 +2,19 @@
 -- 0, number 0, the start level and a stamp of zeros; a stamp's places beyond n are 0".
 use mathlib.Core.Bool.{Bool, _&&_, cond}
 use mathlib.Core.List.{List}
-use Prim.Native.Nat.{ℕ, _-_}
+use Prim.Native.Nat.{ℕ, _+_, _-_, _*_}
 use lib.ListN.{length, replicate}
 use lib.IntN.{pos}
 use lib.Dec.{leb, ltb}
+use Rattle.bits.specs.Bits.{field}
 use Rattle.cuts.specs.Below.{tab}
 use Rattle.cuts.specs.Cut.{at}
 use Rattle.recording.specs.Recording.{Recording, countsOf, originOf, numberOf, stamps, levels}
 use Rattle.recording.specs.Form.{recordingOf}
 use Rattle.recording.specs.Check.{refusal, orElse, checkedOf}
 use Rattle.recording.specs.declared.Refusal.{Refusal}
 use Rattle.recording.specs.declared.Checked.{Checked}
-use Rattle.recording.specs.declared.Found.{Found}
+use Rattle.lookup.specs.declared.Found.{Found}
 
 -- station 1 to n, event 0 to its m; else "no such station or event number is recorded"
 unfoldable pub isRecorded : Recording → ℕ → ℕ → Bool
@@ -39,3 +40,7 @@ unfoldable pub lookupOf : ℕ → ℕ → List ℕ → ℕ → ℕ → Found
 lookupOf lead w s station event =
     let R = recordingOf lead w s in
     lookedUp (orElse (checkedOf lead w s) (cond (isRecorded R station event) Checked.Accepted (refusal 15 0 0))) R station event
+
+-- count q of a stamp whose n counts of w bits begin at the bit b, 0 beyond n, as the code reads it
+unfoldable pub counted : ℕ → List ℕ → ℕ → ℕ → ℕ → ℕ
+counted w s n b q = cond (ltb q n) (field s (b + w * q) w) 0

@@ -1,33 +1,27 @@
--- After q turns the first q places hold the record's numbers of the table.
+-- After q turns the first q places hold the first q counts.
 use mathlib.Core.Path.{_≡_, refl, _∙_}
 use mathlib.Core.List.{_++_}
-use Prim.Native.Nat.{_+_, _-_, _*_, _≤_}
+use Prim.Native.Nat.{_-_, _≤_}
 use native.Mathlib.Omega.{arith}
 use lib.ListN.{drop}
 use borrow.Author.Needs.{needs}
 use Rattle.cuts.specs.Below.{tab}
 use Rattle.cuts.proofs.TabLaws.{tab-none, tab-more, tab-full}
-use Rattle.recording.specs.Decode.{stampCell}
-use Rattle.recording.proofs.form.stamp.Statement.{statement}
-use Rattle.recording.proofs.form.stamp.Tie as tie
+use Rattle.lookup.specs.Lookup.{counted}
+use Rattle.lookup.proofs.stamp.Statement.{statement}
+use Rattle.lookup.proofs.stamp.Tie as tie
 
 abbrev Inv-loop : tie.InvT-loop
-Inv-loop lead w s n r t₀ q₀ t q = (q ≤ 8) × (t ≡ tab q (λ k. stampCell lead w s n (8 * r + k)) ++ drop q t₀)
+Inv-loop w s n b t₀ q₀ t q = (q ≤ 8) × (t ≡ tab q (counted w s n b) ++ drop q t₀)
 
 abbrev μ-loop : tie.MeasureT-loop
-μ-loop lead w s n r t₀ q₀ t q = 8 - q
+μ-loop w s n b t₀ q₀ t q = 8 - q
 
 loop-holds : tie.Need-loop-holds Inv-loop μ-loop
 loop-holds c = (omega arith, tab-none _ _)
 
-mul-stamp-cell : tie.Need-mul-stamp-cell Inv-loop μ-loop
-mul-stamp-cell c = search needs
-
-add-stamp-cell : tie.Need-add-stamp-cell Inv-loop μ-loop
-add-stamp-cell c = search needs
-
-stamp-cell-requires : tie.Need-stamp-cell-requires Inv-loop μ-loop
-stamp-cell-requires c κs = search needs
+count-requires : tie.Need-count-requires Inv-loop μ-loop
+count-requires c κs = search needs
 
 mul-t : tie.Need-mul-t Inv-loop μ-loop
 mul-t c = search needs
@@ -44,7 +38,7 @@ loop-less c = search needs
 loop-again : tie.Need-loop-again Inv-loop μ-loop
 loop-again c =
     let L = c .before .before .loop in
-    (omega arith, rw (L .inv .1, c .stamp-cell .ensures) (tab-more (L .q) _ _ (omega arith)))
+    (omega arith, rw (L .inv .1, c .count .ensures) (tab-more (L .q) _ _ (omega arith)))
 
 returns : tie.Need-returns Inv-loop μ-loop
 returns c = c .before .loop .inv .1 ∙ tab-full _ 8 _ _ (c .before .loop .inv .0) (c .loop-test .left) refl
@@ -56,9 +50,7 @@ stamp-spec =
     Inv-loop
     μ-loop
     loop-holds
-    mul-stamp-cell
-    add-stamp-cell
-    stamp-cell-requires
+    count-requires
     mul-t
     array-write-t
     add-q
