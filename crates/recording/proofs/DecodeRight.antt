@@ -1,7 +1,7 @@
 -- What the recording laid out flat says is what the recording says. In order: the full cut; the start levels; the table of stamps; the table of levels;
--- that the entries have one reply each. Assumes nothing.
+-- that the full cut and the start levels are one reply each. Assumes nothing.
 use mathlib.Core.Path.{_≡_, sym, ap, _∙_}
-use mathlib.Core.Bool.{Bool, true}
+use mathlib.Core.Bool.{true}
 use mathlib.Core.List.{List, _++_}
 use Prim.Native.Nat.{ℕ, suc, _+_, _*_, _≤_, _<_}
 use native.Mathlib.Decide.{decLt}
@@ -112,16 +112,3 @@ module _ (lead w : ℕ) (s : List ℕ) where
 
   pub starts-unique : (r r′ : List ℕ) → r ≡ startsOf lead w s → r′ ≡ startsOf lead w s → r ≡ r′
   starts-unique r r′ = replies-equal
-
-  -- with the room afterwards
-  pub stamps-unique : (room : List ℕ) (r r′ : Bool) (after after′ : List ℕ)
-      → (r ≡ stampsFit lead w s (length room)) × (after ≡ stampsIn lead w s room)
-      → (r′ ≡ stampsFit lead w s (length room)) × (after′ ≡ stampsIn lead w s room)
-      → (r ≡ r′) × (after ≡ after′)
-  stamps-unique room r r′ after after′ x y = (replies-equal (x .0) (y .0), replies-equal (x .1) (y .1))
-
-  pub levels-unique : (room : List ℕ) (r r′ : Bool) (after after′ : List ℕ)
-      → (r ≡ levelsFit lead w s (length room)) × (after ≡ levelsIn lead w s room)
-      → (r′ ≡ levelsFit lead w s (length room)) × (after′ ≡ levelsIn lead w s room)
-      → (r ≡ r′) × (after ≡ after′)
-  levels-unique room r r′ after after′ x y = (replies-equal (x .0) (y .0), replies-equal (x .1) (y .1))

@@ -1,50 +1,12 @@
--- Laws of a record's fault as the code works it out of flat tables: each way through the code is one law.
--- In order: records and stations; the origin's kinds; places of stamps; one stamp; a local step; a receipt; any record. Assumes nothing.
-use mathlib.Core.Path.{_≡_, refl, ap, ap₂}
-use mathlib.Core.Bool.{Bool, true, false, _&&_, _||_, not, cond}
-use mathlib.Core.List.{List}
-use Prim.Native.Nat.{ℕ, zero, suc, _+_, _-_, _*_, _≤_, _<_, max}
-use native.Mathlib.Nat.{le-antisymm}
-use native.Mathlib.Numerals.{add-one}
-use native.Mathlib.Omega.{arith}
+-- Laws of a record's fault and of what it is refused with, station by station. Assumes nothing.
+use mathlib.Core.Path.{_≡_, refl}
+use Prim.Native.Nat.{ℕ, _+_}
 use lib.ListN.{length}
-use lib.Dec.{leb, ltb, eqb}
-use borrow.Author.Tests.{ltb-true, ltb-false, leb-true, leb-false, eqb-true, eqb-false, lt-ltb, le-ltb, le-leb, lt-leb, eq-eqb, ne-eqb}
-use Rattle.cuts.specs.Below.{every, own}
-use Rattle.cuts.specs.Cut.{at}
-use Rattle.cuts.proofs.BelowLaws.{every-false}
 use Rattle.recording.specs.Recording.{Recording, countsOf}
 use Rattle.recording.specs.Check.{refusal, scanTo, scanRecords, checkedRecords}
-use Rattle.recording.specs.Fault.{faultAt, checkedRecord, checkedStation, sourceOf, placeAt, placeRight, stampFault, localFault, receiptFault, sourceFault, tableFault}
+use Rattle.recording.specs.Fault.{faultAt, checkedRecord, checkedStation}
 use Rattle.recording.specs.declared.Checked.{Checked}
-use Rattle.recording.specs.declared.records.Source.{Source}
 use Rattle.recording.proofs.CheckLaws.{atRecord-0, atRecord-fault}
-
--- two tests that agree below n
-pub every-same : (n : ℕ) (f g : ℕ → Bool) → ((q : ℕ) → q < n → f q ≡ g q) → every n f ≡ every n g
-unfolding every
-every-same zero f g h = refl
-every-same (suc n) f g h = ap₂ _&&_ (every-same n f g (λ q l. h q (omega arith))) (h n (omega arith))
-
--- at most, as not above
-pub leb-not : (a b : ℕ) → leb a b ≡ not (ltb b a)
-leb-not a b = go (ltb b a) refl
-  where
-    go : (u : Bool) → ltb b a ≡ u → leb a b ≡ not u
-    go true e = lt-leb a b (ltb-true b a e)
-    go false e = le-leb a b (ltb-false b a e)
-
-pub sourceOf-local : (o : ℕ) → o ≡ 0 → Source.Local ≡ sourceOf o
-unfolding sourceOf
-sourceOf-local o h = rw (eq-eqb o 0 h) refl
-
-pub sourceOf-from : (o : ℕ) → 1 ≤ o → o ≤ 8 → Source.From o ≡ sourceOf o
-unfolding sourceOf
-sourceOf-from o h g = rw (ne-eqb o 0 (λ e. omega arith), le-leb o 8 g) refl
-
-pub sourceOf-unknown : (o : ℕ) → 8 < o → Source.Unknown ≡ sourceOf o
-unfolding sourceOf
-sourceOf-unknown o h = rw (ne-eqb o 0 (λ e. omega arith), lt-leb o 8 h) refl
 
 -- the records of a station, one after the other
 module _ (R : Recording) where
@@ -60,92 +22,3 @@ module _ (R : Recording) where
   pub checkedRecords-scan : checkedRecords R ≡ scanTo (length (countsOf R)) (checkedStation R)
   unfolding checkedRecords scanRecords checkedStation checkedRecord faultAt
   checkedRecords-scan = refl
-
--- what each kind of origin says of it
-abbrev pub Kind : Source → ℕ → Type 0
-Kind Source.Local o = o ≡ 0
-Kind (Source.From x) o = (x ≡ o) × (1 ≤ x) × (x ≤ 8)
-Kind Source.Unknown o = 8 < o
-
-sourceOf-kind : (o : ℕ) → Kind (sourceOf o) o
-unfolding sourceOf
-sourceOf-kind o = go (eqb o 0) refl (leb o 8) refl
-  where
-    go : (u : Bool) → eqb o 0 ≡ u → (v : Bool) → leb o 8 ≡ v → Kind (cond u Source.Local (cond v (Source.From o) Source.Unknown)) o
-    go true e v f = eqb-true o 0 e
-    go false e true f = (refl, omega (arith, eqb-false o 0 e), leb-true o 8 f)
-    go false e false f = leb-false o 8 f
-
-pub sourceOf-is : (x : Source) (o : ℕ) → x ≡ sourceOf o → Kind x o
-sourceOf-is x o h = rw h (sourceOf-kind o)
-
-module _ (rows : List ℕ) where
-  pub placeAt-start : (first e q : ℕ) → e < 1 → 0 ≡ placeAt rows first e q
-  unfolding placeAt
-  placeAt-start first zero q h = refl
-  placeAt-start first (suc e) q h = absurd (omega arith)
-
-  pub placeAt-event : (first e q : ℕ) → 1 ≤ e → at rows (8 * (first + (e - 1)) + q) ≡ placeAt rows first e q
-  unfolding placeAt
-  placeAt-event first zero q h = absurd (omega arith)
-  placeAt-event first (suc e) q h =
-      let k : suc e - 1 ≡ e = omega arith in
-      rw k refl
-
-  module _ (p first e sender k : ℕ) where
-    -- a place of the stamp compared, as the code does it
-    pub placeRight-is : (q x a b l o : ℕ) → x ≡ placeAt rows first (e + 1) q → a ≡ placeAt rows first e q → b ≡ placeAt rows sender k q → l ≡ max a b → o ≡ own p q
-        → placeRight rows p first e sender k q ≡ eqb x (l + o)
-    unfolding placeRight
-    placeRight-is q x a b l o e₁ e₂ e₃ e₄ e₅ = rw (e₁, e₄, e₂, e₃, e₅, add-one e) refl
-
-    pub stampFault-wrong : (n q : ℕ) → q < n → placeRight rows p first e sender k q ≡ false → 7 ≡ stampFault n rows p first e sender k
-    unfolding stampFault
-    stampFault-wrong n q h g = rw (every-false n _ q h g) refl
-
-    pub stampFault-right : (n q : ℕ) → q ≤ n → n ≤ q → every q (placeRight rows p first e sender k) ≡ true → 0 ≡ stampFault n rows p first e sender k
-    unfolding stampFault
-    stampFault-right n q h g r = rw (rw (le-antisymm h g) at r) refl
-
-module _ (n : ℕ) (rows : List ℕ) (p first e k : ℕ) where
-  pub localFault-number : (k ≡ 0 → ⊥) → 6 ≡ localFault n rows p first e k
-  unfolding localFault
-  localFault-number h = rw (ne-eqb k 0 h) refl
-
-  pub localFault-stamp : k ≡ 0 → stampFault n rows p first e first 0 ≡ localFault n rows p first e k
-  unfolding localFault
-  localFault-stamp h = rw (eq-eqb k 0 h) refl
-
-module _ (n : ℕ) (m firsts rows : List ℕ) (p e o k : ℕ) where
-  pub receiptFault-above : n < o → 5 ≡ receiptFault n m firsts rows p e o k
-  unfolding receiptFault
-  receiptFault-above h = rw (lt-ltb n o h) refl
-
-  pub receiptFault-own : o ≤ n → o ≡ p + 1 → 5 ≡ receiptFault n m firsts rows p e o k
-  unfolding receiptFault
-  receiptFault-own h g = rw (le-ltb n o h, eq-eqb o (p + 1) g) refl
-
-  pub receiptFault-none : o ≤ n → (o ≡ p + 1 → ⊥) → k < 1 → 6 ≡ receiptFault n m firsts rows p e o k
-  unfolding receiptFault
-  receiptFault-none h g l = rw (le-ltb n o h, ne-eqb o (p + 1) g, lt-leb 1 k l) refl
-
-  pub receiptFault-late : o ≤ n → (o ≡ p + 1 → ⊥) → 1 ≤ k → at m (o - 1) < k → 6 ≡ receiptFault n m firsts rows p e o k
-  unfolding receiptFault
-  receiptFault-late h g l j = rw (le-ltb n o h, ne-eqb o (p + 1) g, le-leb 1 k l, lt-leb k (at m (o - 1)) j) refl
-
-  pub receiptFault-stamp : o ≤ n → (o ≡ p + 1 → ⊥) → 1 ≤ k → k ≤ at m (o - 1) → stampFault n rows p (at firsts p) e (at firsts (o - 1)) k ≡ receiptFault n m firsts rows p e o k
-  unfolding receiptFault
-  receiptFault-stamp h g l j = rw (le-ltb n o h, ne-eqb o (p + 1) g, le-leb 1 k l, le-leb k (at m (o - 1)) j) refl
-
--- a receipt from the station at place i
-pub receiptFault-from : (n : ℕ) (m firsts rows : List ℕ) (p e i k : ℕ)
-    → receiptFault n m firsts rows p e (suc i) k ≡ cond (ltb n (suc i) || eqb (suc i) (p + 1)) 5 (cond (leb 1 k && leb k (at m i)) (stampFault n rows p (at firsts p) e (at firsts i) k) 6)
-unfolding receiptFault
-receiptFault-from n m firsts rows p e i k =
-    let d : suc i - 1 ≡ i = omega arith in
-    ap (λ (j : ℕ). cond (ltb n (suc i) || eqb (suc i) (p + 1)) 5 (cond (leb 1 k && leb k (at m j)) (stampFault n rows p (at firsts p) e (at firsts j) k) 6)) d
-
--- a record's fault by the kind of its origin is its fault
-pub tableFault-source : (n : ℕ) (m firsts rows : List ℕ) (o k p e : ℕ) (x : Source) → x ≡ sourceOf o → sourceFault n m firsts rows x k p e ≡ tableFault n m firsts rows o k p e
-unfolding tableFault
-tableFault-source n m firsts rows o k p e x h = rw h refl

@@ -11,7 +11,8 @@ use Rattle.cuts.proofs.BelowLaws.{length-tab, getD-tab}
 use Rattle.recording.specs.Recording.{Recording, countsOf}
 use Rattle.recording.specs.Form.{mAt, firstAt, originAt, numberAt, recordingOf}
 use Rattle.recording.specs.Decode.{recordsTo, stampCell, Laid}
-use Rattle.recording.specs.Fault.{faultAt, tableFault, ReceiptRoom}
+use Rattle.faults.specs.Fault.{tableFault}
+use Rattle.recording.specs.Fault.{faultAt}
 use Rattle.recording.proofs.FormLaws.{stations-read, count-read, origin-read, number-read}
 use Rattle.recording.proofs.PlaceLaws.{mAt-lt, firstAt-more, firstAt-le, firstAt-mono, firstAt-lt}
 use Rattle.recording.proofs.DecodeLaws.{eventsAt-in, recordsTo-firstAt, firsts-at}
@@ -50,32 +51,27 @@ module _ {lead w n : ℕ} {s m firsts rows : List ℕ} (laid : Laid lead w s n m
       let l : j < t = omega (arith, recordsTo-firstAt lead w s n n (omega arith)) in
       sym (getD-take t rows j 0 l) ∙ ap (λ (l : List ℕ). at l j) (laid .rows-are) ∙ getD-tab t _ 0 j l
 
+  -- the records of every station lie in the table
+  station-room : (q : ℕ) → q < n → 8 * (at firsts q + at m q) ≤ length rows
+  station-room q h =
+      let d : q + 1 + (n - (q + 1)) ≡ n = omega arith in
+      omega (arith, m-laid q h, first-laid q (omega arith), firstAt-more lead w s q, rw d at (firstAt-mono lead w s (q + 1) (n - (q + 1))), rows-room)
+
   -- the tables have what the recording's events say
   laid-tables : Tables R n m firsts rows
   laid-tables = record {
     stations = n-read;
     most = laid .n-most;
     counts = m-read;
+    room = station-room;
     places = λ p e q hp he hq.
         let k : e < mAt lead w s p = omega (arith, m-laid p hp) in
         rw (first-laid p (omega arith), row-laid (8 * (firstAt lead w s p + e) + q) (omega (arith, firstAt-lt lead w s p e n hp k)), laid .n-is)
         (stampCell-stamp lead w s p e (omega arith) k q (omega arith));
   }
 
-  -- the records of every station lie in the table
-  pub record-room : (p e : ℕ) → p < n → e < mAt lead w s p → 8 * (at firsts p + e) + 8 ≤ length rows
-  record-room p e hp he = omega (arith, first-laid p (omega arith), firstAt-lt lead w s p e n hp he, rows-room)
-
   pub record-small : (p e : ℕ) → w ≤ 9 → p < n → e < mAt lead w s p → at firsts p + e < 4096
   record-small p e hw hp he = omega (arith, first-laid p (omega arith), firstAt-lt lead w s p e n hp he, firstAt-le lead w s n hw)
-
-  pub receipt-room : (p e : ℕ) → p < n → e < mAt lead w s p → ReceiptRoom n m firsts (length rows) p e
-  receipt-room p e hp he = record { own-room = record-room p e hp he; sender-room = λ q h. sender q h }
-    where
-      sender : (q : ℕ) → suc q ≤ n → 8 * (at firsts q + at m q) ≤ length rows
-      sender q h =
-          let d : q + 1 + (n - (q + 1)) ≡ n = omega arith in
-          omega (arith, m-laid q h, first-laid q (omega arith), firstAt-more lead w s q, rw d at (firstAt-mono lead w s (q + 1) (n - (q + 1))), rows-room)
 
   -- a record's fault, by its origin and number
   pub record-right : (p e : ℕ) → p < n → e < mAt lead w s p → (o k : ℕ) → o ≡ originAt lead w s n (at firsts p + e) → k ≡ numberAt lead w s n (at firsts p + e)

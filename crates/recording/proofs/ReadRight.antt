@@ -16,10 +16,8 @@ use Rattle.cuts.proofs.DemandRight.{an-order}
 use Rattle.recording.specs.Recording.{Recording, messages, stamps}
 use Rattle.recording.specs.Form.{bytesFor, stationBit, recordSize, recordBit, nAt, mAt, firstAt, recordingOf, needed, lead8, width8}
 use Rattle.recording.specs.Check.{faultOf, atWhole, orElse, recordTests, formTests, checkedRecords, checkedOf}
-use Rattle.recording.specs.Lookup.{lookupOf}
 use Rattle.recording.specs.declared.Refusal.{Refusal}
 use Rattle.recording.specs.declared.Checked.{Checked}
-use Rattle.recording.specs.declared.Found.{Found}
 use Rattle.recording.proofs.CheckLaws.{atWhole-0, atWhole-accepted, atWhole-refused, atRecord-refused, accepted-not, fault-le, no-fault}
 use Rattle.recording.proofs.CheckRight.{scan-formed, scan-stamped, formed-scan, Earlier, refused-first}
 use Rattle.recording.proofs.AcceptedRight.{accepted-accepts}
@@ -39,9 +37,6 @@ module _ (lead w : ℕ) (s : List ℕ) where
 
   pub check-unique : (r r′ : Checked) → r ≡ checkedOf lead w s → r′ ≡ checkedOf lead w s → r ≡ r′
   check-unique r r′ = replies-equal
-
-  pub lookup-unique : (station event : ℕ) (r r′ : Found) → r ≡ lookupOf lead w s station event → r′ ≡ lookupOf lead w s station event → r ≡ r′
-  lookup-unique station event r r′ = replies-equal
 
   -- accepted is formed and stamped ..
   pub accepted-formed : checkedOf lead w s ≡ Checked.Accepted → Formed T × Stamped T S

@@ -1,6 +1,6 @@
 -- The fault of a record worked out of flat tables is the first of the record's tests that fails, for any recording that the tables have: a local step is
 -- a receipt of event 0, whose stamp is zeros; an origin that names no other station fails the first test whatever the tables have.
--- In order: what the tables have; a stamp's fault; a record's. The reader's tables are in `FaultRight`, the writer's in `GivenRight`. Assumes nothing.
+-- In order: what the tables have; a stamp's fault; a record's. The reader's tables are in `FaultRight`, the writer's in `GivenRight` of `writer`. Assumes nothing.
 use mathlib.Core.Path.{_≡_, refl, sym, ap, ap₂, _∙_}
 use mathlib.Core.Bool.{Bool, true, false, _&&_, _||_, not, cond}
 use mathlib.Core.List.{List, [], _∷_}
@@ -16,15 +16,17 @@ use Rattle.cuts.specs.Trace.{Messages, Stamps, wanted}
 use Rattle.cuts.proofs.BelowLaws.{and-true}
 use Rattle.recording.specs.Recording.{Recording, countsOf, messages, stamps}
 use Rattle.recording.specs.Check.{test, faultOf, originOk, numberOk, stampOk}
-use Rattle.recording.specs.Fault.{faultAt, sourceOf, placeAt, placeRight, stampFault, localFault, receiptFault, sourceFault, tableFault}
-use Rattle.recording.specs.declared.records.Source.{Source}
-use Rattle.recording.proofs.FaultLaws.{every-same, leb-not, sourceOf-is, receiptFault-from}
+use Rattle.faults.specs.Fault.{sourceOf, placeAt, placeRight, stampFault, localFault, receiptFault, sourceFault, tableFault}
+use Rattle.faults.specs.declared.Source.{Source}
+use Rattle.faults.proofs.FaultLaws.{every-same, leb-not, sourceOf-is, stampFault-every, receiptFault-from, tableFault-source}
+use Rattle.recording.specs.Fault.{faultAt}
 
--- the tables have what the recording says: n, the counts, and at eight places a record the stamps; each station's records begin at its first
+-- the tables have what the recording says: n, the counts, room for all records, and at eight places a record the stamps; each station's records begin at its first
 pub record Tables (R : Recording) (n : ℕ) (m firsts rows : List ℕ) : Type 0 where
   pub stations : length (countsOf R) ≡ n
   pub most : n ≤ 8
   pub counts : (p : ℕ) → p < n → at m p ≡ at (countsOf R) p
+  pub room : (p : ℕ) → p < n → 8 * (at firsts p + at m p) ≤ length rows
   pub places : (p e q : ℕ) → p < n → e < at m p → q < n → at rows (8 * (at firsts p + e) + q) ≡ stamps R p (suc e) q
 
 -- the faults of a record, by its three tests
@@ -56,9 +58,9 @@ module _ {R : Recording} {n : ℕ} {m firsts rows : List ℕ} (tables : Tables R
     -- the stamp tested in the table is the stamp tested in the recording, where what is received is wanted
     stamp-tabled : (o i k : ℕ) → T .origin p (suc e) ≡ o → i < n → k ≤ at m i
         → ((q : ℕ) → wanted T S o p e q ≡ max (S p e q) (S i k q) + own p q) → stampFault n rows p (at firsts p) e (at firsts i) k ≡ cond (stampOk T S p e) 0 7
-    unfolding stampFault stampOk placeRight
+    unfolding stampOk placeRight
     stamp-tabled o i k eo hi hk hw =
-        rw (tables .stations, eo)
+        rw (stampFault-every rows p (at firsts p) e (at firsts i) k n (omega (arith, tables .room p hp)) (omega (arith, tables .room i hi)), tables .stations, eo)
         (ap (λ (b : Bool). cond b 0 7)
         (every-same n _ _ (λ q hq. ap₂ eqb (place-tabled p (suc e) q hp he hq) (ap₂ (λ (x y : ℕ). max x y + own p q) (place-tabled p e q hp (omega arith) hq) (place-tabled i k q hi hk hq) ∙ sym (hw q)))))
 
@@ -94,5 +96,4 @@ module _ {R : Recording} {n : ℕ} {m firsts rows : List ℕ} (tables : Tables R
 
       -- and by the origin
       pub table-right : tableFault n m firsts rows o k p e ≡ faultAt R p e
-      unfolding tableFault
-      table-right = source-right (sourceOf o) refl
+      table-right = sym (tableFault-source n m firsts rows o k p e (tables .most) hp (sourceOf o) refl) ∙ source-right (sourceOf o) refl

@@ -1,5 +1,5 @@
 -- The packed recording laid out flat, for the checks and for the engine: counts and start levels in arrays of eight, stamps and levels in tables, records
--- in file order. In order: eight counts, firsts, starts; the tables; what of them the checks lean on; the public entries' replies.
+-- in file order. In order: eight counts, firsts, starts; the tables; what of them the checks lean on; the full cut and the start levels; the tables in their rooms.
 use mathlib.Core.Path.{_≡_}
 use mathlib.Core.Bool.{Bool, _&&_, cond}
 use mathlib.Core.List.{List, _++_}

@@ -1,15 +1,11 @@
--- The faults as the code works them out, those of a record out of flat tables. Nothing here has to be believed: `FaultRight` proves that a record's is the
--- first of its tests that fails. In order: the whole, a record, a station, by their tests; the origin's kinds; stamps in the table; a local step; a receipt; any record.
-use mathlib.Core.Bool.{Bool, _&&_, _||_, cond}
+-- The faults of the whole, of a record and of a station, by their tests; the fault of a record out of flat tables is in `faults`. Nothing here has to be
+-- believed: it only gives names to what the checks ask.
 use mathlib.Core.List.{List}
-use Prim.Native.Nat.{ℕ, zero, suc, _+_, _-_, _*_, _≤_, max}
-use lib.Dec.{leb, ltb, eqb}
-use Rattle.cuts.specs.Below.{every, own}
+use Prim.Native.Nat.{ℕ}
 use Rattle.cuts.specs.Cut.{at}
 use Rattle.recording.specs.Recording.{Recording, countsOf, messages, stamps}
 use Rattle.recording.specs.Check.{faultOf, atRecord, scanTo, recordTests, formTests}
 use Rattle.recording.specs.declared.Checked.{Checked}
-use Rattle.recording.specs.declared.records.Source.{Source}
 
 -- the first test of the whole that fails
 unfoldable pub formFault : ℕ → ℕ → List ℕ → ℕ
@@ -26,43 +22,3 @@ checkedRecord R p e = atRecord p e (faultAt R p e)
 -- the first refusal among the records of the station at place p
 unfoldable pub checkedStation : Recording → ℕ → Checked
 checkedStation R p = scanTo (at (countsOf R) p) (checkedRecord R p)
-
--- "Origin 0 is a local step, 1 to 8 name a station, 9 to 15 are refused"
-unfoldable pub sourceOf : ℕ → Source
-sourceOf o = cond (eqb o 0) Source.Local (cond (leb o 8) (Source.From o) Source.Unknown)
-
--- place q of the stamp of event e of the station whose records begin at `first`; event 0 has zeros
-unfoldable pub placeAt : List ℕ → ℕ → ℕ → ℕ → ℕ
-placeAt rows first zero q = 0
-placeAt rows first (suc e) q = at rows (8 * (first + e) + q)
-
--- place q of the stamp of event e + 1 is right, where the message came from event k of the station whose records begin at `sender` (event 0 for a local step)
-unfoldable pub placeRight : List ℕ → ℕ → ℕ → ℕ → ℕ → ℕ → ℕ → Bool
-placeRight rows p first e sender k q = eqb (placeAt rows first (suc e) q) (max (placeAt rows first e q) (placeAt rows sender k q) + own p q)
-
-unfoldable pub stampFault : ℕ → List ℕ → ℕ → ℕ → ℕ → ℕ → ℕ → ℕ
-stampFault n rows p first e sender k = cond (every n (placeRight rows p first e sender k)) 0 7
-
-unfoldable pub localFault : ℕ → List ℕ → ℕ → ℕ → ℕ → ℕ → ℕ
-localFault n rows p first e k = cond (eqb k 0) (stampFault n rows p first e first 0) 6
-
-unfoldable pub receiptFault : ℕ → List ℕ → List ℕ → List ℕ → ℕ → ℕ → ℕ → ℕ → ℕ
-receiptFault n m firsts rows p e station k =
-    cond (ltb n station || eqb station (p + 1)) 5
-    (cond (leb 1 k && leb k (at m (station - 1))) (stampFault n rows p (at firsts p) e (at firsts (station - 1)) k) 6)
-
--- the fault of event e + 1 of the station at place p, by the kind of its origin and the sender's number k
-module _ (n : ℕ) (m firsts rows : List ℕ) where
-  unfoldable pub sourceFault : Source → ℕ → ℕ → ℕ → ℕ
-  sourceFault Source.Local k p e = localFault n rows p (at firsts p) e k
-  sourceFault (Source.From o) k p e = receiptFault n m firsts rows p e o k
-  sourceFault Source.Unknown k p e = 5
-
-  -- by its origin o
-  unfoldable pub tableFault : ℕ → ℕ → ℕ → ℕ → ℕ
-  tableFault o k p e = sourceFault (sourceOf o) k p e
-
--- the table has room for the records of every station up to its m, and for event e + 1 of p
-pub record ReceiptRoom (n : ℕ) (m firsts : List ℕ) (room p e : ℕ) : Type 0 where
-  pub own-room : 8 * (at firsts p + e) + 8 ≤ room
-  pub sender-room : (q : ℕ) → suc q ≤ n → 8 * (at firsts q + at m q) ≤ room

@@ -1,12 +1,7 @@
 pub mod Recording
 pub mod Form
 pub mod Check
-pub mod Lookup
-pub mod Write
 pub mod Decode
 pub mod Fault
-pub mod Tables
-pub mod Pack
-pub mod Again
 pub mod ExampleBytes
 pub mod Decoded

@@ -168,20 +168,6 @@ pub fn count(lead: usize, w: usize, s: &[u8], n: usize, r: usize, q: usize) -> u
     bits::peek(s, record_bit(lead, w, n, r) + 16 + w + w * q, w)
 }
 
-// The stamp of record r, 0 in the places beyond n.
-pub fn stamp(lead: usize, w: usize, s: &[u8], n: usize, r: usize) -> [u16; 8]
-    requires { ⌜ (lead ≤ 8) × (w ≤ 9) × (n ≤ 8) × (r < 4096) ⌝ }
-    ensures { λ t. ⌜ t ≡ tab 8 (λ q. stampCell lead w (now (s .entry)) n (8 * r + q)) ⌝ }
-{
-    let mut t = [0u16; 8];
-    let mut q: usize = 0;
-    while q < 8 {
-        t[q] = stamp_cell(lead, w, s, n, 8 * r + q);
-        q += 1;
-    }
-    t
-}
-
 // Number j of the table of stamps.
 pub fn stamp_cell(lead: usize, w: usize, s: &[u8], n: usize, j: usize) -> u16
     requires { ⌜ (lead ≤ 8) × (w ≤ 9) × (n ≤ 8) × (j ≤ 32768) ⌝ }

@@ -1,16 +1,12 @@
-// The packed recording of document 01: checked, looked up, laid out flat, written.
+// The packed recording of document 01: checked, laid out flat.
 ghost use mathlib.Core.Path.{_≡_};
-ghost use lib.ListN.{length};
 ghost use Rattle.recording.specs.Form.{lead8, width8};
 ghost use Rattle.recording.specs.Check.{checkedOf};
-ghost use Rattle.recording.specs.Lookup.{lookupOf};
 ghost use Rattle.recording.specs.Decoded.{Decodes};
-ghost use Rattle.recording.specs.Write.{Wrote};
-ghost use Rattle.recording.specs.Decode.{fullOf, startsOf, stampsFit, stampsIn, levelsFit, levelsIn};
+ghost use Rattle.recording.specs.Decode.{fullOf, startsOf};
 
 mod form;
 mod records;
-mod writer;
 
 use cuts::Cut;
 
@@ -27,25 +23,10 @@ pub enum Checked {
     Refused(Refusal),
 }
 
-// One record, or the refusal, and zeros beside it.
-pub struct Found {
-    pub answer: Checked,
-    pub origin: u8,
-    pub number: u16,
-    pub level: i16,
-    pub stamp: [u16; 8],
-}
-
 // The tables are laid; a room is too short for its table; or the refusal.
 pub enum Decoded {
     Done,
     Short,
-    Refused(Refusal),
-}
-
-// The bytes written, or the refusal.
-pub enum Written {
-    Done(usize),
     Refused(Refusal),
 }
 
@@ -83,13 +64,6 @@ pub fn decode(s: &[u8], stamps: &mut [u16], levels: &mut [u16]) -> Decoded
     Decoded::Done
 }
 
-// Event `event` of `station`, after the checks.
-pub fn lookup(s: &[u8], station: u8, event: u16) -> Found
-    ensures { λ r. ⌜ r ≡ lookupOf lead8 width8 (now (s .entry)) station event ⌝ }
-{
-    records::look_up(LEAD, WIDTH, s, station, event)
-}
-
 // The n and m that the bytes name, as the full cut.
 pub fn full_cut(s: &[u8]) -> Cut
     ensures { λ r. ⌜ r ≡ fullOf lead8 width8 (now (s .entry)) ⌝ }
@@ -108,63 +82,4 @@ pub fn starts(s: &[u8]) -> [u16; 8]
 {
     let n = form::stations(LEAD, s);
     form::starts(LEAD, WIDTH, s, n)
-}
-
-// The table of stamps, eight places a record in file order, into the front of the room; whether the room has it.
-pub fn stamps(s: &[u8], room: &mut [u16]) -> bool
-    ensures { λ r. ⌜ (r ≡ stampsFit lead8 width8 (now (s .entry)) (length (now (room .entry)))) × (now (room .exit) ≡ stampsIn lead8 width8 (now (s .entry)) (now (room .entry))) ⌝ }
-{
-    let n = form::stations(LEAD, s);
-    if 8 < n {
-        return false;
-    }
-    let total = form::total(LEAD, WIDTH, s, n);
-    if room.len() < 8 * total {
-        return false;
-    }
-    form::lay_stamps(LEAD, WIDTH, s, n, total, room);
-    true
-}
-
-// The table of levels as excess numbers, records in file order, into the front of the room; whether the room has it.
-pub fn levels(s: &[u8], room: &mut [u16]) -> bool
-    ensures { λ r. ⌜ (r ≡ levelsFit lead8 width8 (now (s .entry)) (length (now (room .entry)))) × (now (room .exit) ≡ levelsIn lead8 width8 (now (s .entry)) (now (room .entry))) ⌝ }
-{
-    let n = form::stations(LEAD, s);
-    if 8 < n {
-        return false;
-    }
-    let total = form::total(LEAD, WIDTH, s, n);
-    if room.len() < total {
-        return false;
-    }
-    form::lay_levels(LEAD, WIDTH, s, n, total, room);
-    true
-}
-
-// What is handed in, packed into the front of the room: n stations' counts and start levels, and the records in file order, n counts to a stamp.
-pub fn write(
-    n: u8,
-    counts: &[u8],
-    starts: &[i16],
-    origins: &[u8],
-    numbers: &[u16],
-    levels: &[i16],
-    stamps: &[u16],
-    room: &mut [u8],
-) -> Written
-    ensures { λ r. ⌜ Wrote lead8 width8 (record { n = n; counts = now (counts .entry); starts = now (starts .entry); origins = now (origins .entry); numbers = now (numbers .entry); levels = now (levels .entry); stamps = now (stamps .entry) }) (now (room .entry)) (now (room .exit)) r ⌝ }
-{
-    writer::write_form(
-        LEAD,
-        WIDTH,
-        n as usize,
-        counts,
-        starts,
-        origins,
-        numbers,
-        levels,
-        stamps,
-        room,
-    )
 }

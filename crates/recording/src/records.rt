@@ -1,25 +1,15 @@
-// The checks of a recording, and the lookup of one record.
+// The checks of a recording.
 ghost use mathlib.Core.Path.{_≡_};
-ghost use Prim.Native.Nat.{_+_, _*_, _≤_, _<_, max};
+ghost use Prim.Native.Nat.{_≤_, _<_};
 ghost use lib.ListN.{length};
-ghost use Rattle.cuts.specs.Below.{own};
-ghost use Rattle.recording.specs.Form.{nAt, mAt, recordingOf};
+ghost use Rattle.recording.specs.Form.{mAt, recordingOf};
 ghost use Rattle.recording.specs.Check.{checkedRecords, checkedOf};
-ghost use Rattle.recording.specs.Lookup.{lookupOf, foundOf, notFound};
 ghost use Rattle.recording.specs.Decode.{Laid};
 ghost use Rattle.recording.specs.Decoded.{CheckedRows};
-ghost use Rattle.recording.specs.Fault.{formFault, faultAt, checkedStation, sourceOf, placeAt, stampFault, localFault, receiptFault, tableFault, ReceiptRoom};
+ghost use Rattle.recording.specs.Fault.{formFault, faultAt, checkedStation};
 use crate::Checked;
-use crate::Found;
 use crate::Refusal;
 use crate::form;
-
-// A record's origin: none, a station, or a number that names none.
-pub enum Source {
-    Local,
-    From(u8),
-    Unknown,
-}
 
 // The checks in the written order.
 pub fn check_form(lead: usize, w: usize, s: &[u8]) -> Checked
@@ -151,138 +141,7 @@ pub fn record_fault(
     let r = firsts[p] + e;
     let o = form::origin(lead, w, s, n, r);
     let k = form::wide(form::number(lead, w, s, n, r));
-    message_fault(n, m, firsts, rows, o, k, p, e)
-}
-
-// The same, of a record with the origin o and the sender's number k.
-pub fn message_fault(
-    n: usize,
-    m: [u16; 8],
-    firsts: [usize; 9],
-    rows: &[u16],
-    o: u8,
-    k: usize,
-    p: usize,
-    e: usize,
-) -> u8
-    requires { ⌜ (n ≤ 8) × (p < n) × ReceiptRoom n m firsts (length (now rows)) p e ⌝ }
-    ensures { λ r. ⌜ r ≡ tableFault n m firsts (now (rows .entry)) o k p e ⌝ }
-{
-    let source = source_of(o);
-    match source {
-        Source::Local => local_fault(n, rows, p, firsts[p], e, k),
-        Source::From(station) => receipt_fault(n, m, firsts, rows, p, e, station as usize, k),
-        Source::Unknown => 5,
-    }
-}
-
-// The fault of a local step with the sender's number k.
-pub fn local_fault(n: usize, rows: &[u16], p: usize, first: usize, e: usize, k: usize) -> u8
-    requires { ⌜ (n ≤ 8) × (8 * (first + e) + 8 ≤ length (now rows)) ⌝ }
-    ensures { λ r. ⌜ r ≡ localFault n (now (rows .entry)) p first e k ⌝ }
-{
-    if k != 0 {
-        return 6;
-    }
-    stamp_fault(n, rows, p, first, e, first, 0)
-}
-
-// The fault of a receipt from `station`, 1 to 8, with the sender's number k.
-pub fn receipt_fault(
-    n: usize,
-    m: [u16; 8],
-    firsts: [usize; 9],
-    rows: &[u16],
-    p: usize,
-    e: usize,
-    station: usize,
-    k: usize,
-) -> u8
-    requires { ⌜ (n ≤ 8) × (p < n) × (1 ≤ station) × (station ≤ 8) × ReceiptRoom n m firsts (length (now rows)) p e ⌝ }
-    ensures { λ r. ⌜ r ≡ receiptFault n m firsts (now (rows .entry)) p e station k ⌝ }
-{
-    if n < station {
-        return 5;
-    }
-    if station == p + 1 {
-        return 5;
-    }
-    if k < 1 {
-        return 6;
-    }
-    let sender = station - 1;
-    if form::wide(m[sender]) < k {
-        return 6;
-    }
-    stamp_fault(n, rows, p, firsts[p], e, firsts[sender], k)
-}
-
-// 7 where the stamp of event e + 1 does not follow from the one before it and that of event k of the station whose records begin at `sender`, else 0.
-pub fn stamp_fault(
-    n: usize,
-    rows: &[u16],
-    p: usize,
-    first: usize,
-    e: usize,
-    sender: usize,
-    k: usize,
-) -> u8
-    requires { ⌜ (n ≤ 8) × (8 * (first + e) + 8 ≤ length (now rows)) × (8 * (sender + k) ≤ length (now rows)) ⌝ }
-    ensures { λ r. ⌜ r ≡ stampFault n (now (rows .entry)) p first e sender k ⌝ }
-{
-    let mut q: usize = 0;
-    while q < n {
-        let before = place(rows, first, e, q);
-        let sent = place(rows, sender, k, q);
-        if place(rows, first, e + 1, q) != larger(before, sent) + own_place(p, q) {
-            return 7;
-        }
-        q += 1;
-    }
-    0
-}
-
-// Place q of the stamp of event e of the station whose records begin at `first`.
-pub fn place(rows: &[u16], first: usize, e: usize, q: usize) -> usize
-    requires { ⌜ (q < 8) × (8 * (first + e) ≤ length (now rows)) ⌝ }
-    ensures { λ r. ⌜ (r ≡ placeAt (now (rows .entry)) first e q) × (r < 65536) ⌝ }
-{
-    if e < 1 {
-        return 0;
-    }
-    form::wide(rows[8 * (first + (e - 1)) + q])
-}
-
-// The larger of two counts.
-pub fn larger(a: usize, b: usize) -> usize
-    ensures { λ r. ⌜ r ≡ max a b ⌝ }
-{
-    if a < b {
-        return b;
-    }
-    a
-}
-
-// 1 at the station's own place, 0 at every other.
-pub fn own_place(p: usize, q: usize) -> usize
-    ensures { λ r. ⌜ (r ≡ own p q) × (r ≤ 1) ⌝ }
-{
-    if p == q {
-        return 1;
-    }
-    0
-}
-
-// Origin 0 is a local step, 1 to 8 name a station.
-pub fn source_of(o: u8) -> Source
-    ensures { λ r. ⌜ r ≡ sourceOf o ⌝ }
-{
-    match o {
-        0 => Source::Local,
-        1..=8 => Source::From(o),
-        9..=15 => Source::Unknown,
-        _ => Source::Unknown,
-    }
+    faults::message_fault(n, m, firsts, rows, o, k, p, e)
 }
 
 // A refusal that is about no record.
@@ -293,66 +152,5 @@ pub fn whole(number: u8) -> Refusal
         number: number,
         station: 0,
         event: 0,
-    }
-}
-
-// Event `event` of `station`, after the checks.
-pub fn look_up(lead: usize, w: usize, s: &[u8], station: u8, event: u16) -> Found
-    requires { ⌜ (4 ≤ lead) × (lead ≤ 8) × (1 ≤ w) × (w ≤ 9) ⌝ }
-    ensures { λ r. ⌜ r ≡ lookupOf lead w (now (s .entry)) station event ⌝ }
-{
-    let v = check_form(lead, w, s);
-    if let Checked::Refused(x) = v {
-        return not_found(x);
-    }
-    let n = form::stations(lead, s);
-    if station < 1 {
-        return not_found(whole(15));
-    }
-    if n < station as usize {
-        return not_found(whole(15));
-    }
-    let p = (station - 1) as usize;
-    if form::events(lead, w, s, p) < event {
-        return not_found(whole(15));
-    }
-    found(lead, w, s, n, p, event as usize)
-}
-
-// The refusal, and zeros beside it.
-pub fn not_found(x: Refusal) -> Found
-    ensures { λ r. ⌜ r ≡ notFound x ⌝ }
-{
-    Found {
-        answer: Checked::Refused(x),
-        origin: 0,
-        number: 0,
-        level: 0,
-        stamp: [0u16; 8],
-    }
-}
-
-// Event e of the station at place p.
-pub fn found(lead: usize, w: usize, s: &[u8], n: usize, p: usize, e: usize) -> Found
-    requires { ⌜ (lead ≤ 8) × (1 ≤ w) × (w ≤ 9) × (n ≡ nAt lead (now s)) × (n ≤ 8) × (p < n) × (e ≤ mAt lead w (now s) p) ⌝ }
-    ensures { λ r. ⌜ r ≡ foundOf (recordingOf lead w (now (s .entry))) p e ⌝ }
-{
-    if e < 1 {
-        return Found {
-            answer: Checked::Accepted,
-            origin: 0,
-            number: 0,
-            level: levels::signed(form::start_bits(lead, w, s, p)),
-            stamp: [0u16; 8],
-        };
-    }
-    let firsts = form::firsts(lead, w, s, n);
-    let r = firsts[p] + (e - 1);
-    Found {
-        answer: Checked::Accepted,
-        origin: form::origin(lead, w, s, n, r),
-        number: form::number(lead, w, s, n, r),
-        level: levels::signed(form::level(lead, w, s, n, r)),
-        stamp: form::stamp(lead, w, s, n, r),
     }
 }

@@ -2,7 +2,7 @@
 use mathlib.Core.Path.{_∙_}
 use native.Mathlib.Omega.{arith}
 use borrow.Author.Needs.{needs}
-use Rattle.recording.proofs.FaultRight.{record-small, receipt-room, record-right}
+use Rattle.recording.proofs.FaultRight.{record-small, record-right}
 use Rattle.recording.proofs.records.record_fault.Statement.{statement}
 use Rattle.recording.proofs.records.record_fault.Tie as tie
 
@@ -31,9 +31,7 @@ wide-requires : tie.Need-wide-requires
 wide-requires c κs = search needs
 
 message-fault-requires : tie.Need-message-fault-requires
-message-fault-requires c κs =
-    let (_, _, _, laid, hp, he) = c .before .before .before .before .before .pre in
-    (laid .n-most, hp, receipt-room laid _ _ hp he)
+message-fault-requires c κs = search needs
 
 returns : tie.Need-returns
 returns c =

@@ -1,0 +1,61 @@
+-- After q turns the sum is of the first q stations' counts, each below 65,536.
+use mathlib.Core.Path.{_≡_, refl, sym}
+use Prim.Native.Nat.{_-_, _*_, _≤_}
+use native.Mathlib.Nat.{le-antisymm}
+use native.Mathlib.Omega.{arith}
+use borrow.Author.Needs.{needs}
+use Rattle.cuts.specs.Below.{sumTo}
+use Rattle.cuts.specs.Cut.{at}
+use Rattle.cuts.proofs.BelowLaws.{sumTo-more}
+use Rattle.lookup.proofs.first.Statement.{statement}
+use Rattle.lookup.proofs.first.Tie as tie
+
+abbrev Inv-loop : tie.InvT-loop
+Inv-loop p m before₀ q₀ before q = (q ≤ p) × (before ≡ sumTo q (at m)) × (before ≤ 65535 * q)
+
+abbrev μ-loop : tie.MeasureT-loop
+μ-loop p m before₀ q₀ before q = p - q
+
+loop-holds : tie.Need-loop-holds Inv-loop μ-loop
+unfolding sumTo
+loop-holds c = (omega arith, refl, omega arith)
+
+mul-wide : tie.Need-mul-wide Inv-loop μ-loop
+mul-wide c = search needs
+
+array-read-wide : tie.Need-array-read-wide Inv-loop μ-loop
+array-read-wide c = search needs
+
+wide-requires : tie.Need-wide-requires Inv-loop μ-loop
+wide-requires c κs = search needs
+
+add-before : tie.Need-add-before Inv-loop μ-loop
+add-before c = search needs
+
+add-q : tie.Need-add-q Inv-loop μ-loop
+add-q c = search needs
+
+loop-less : tie.Need-loop-less Inv-loop μ-loop
+loop-less c = search needs
+
+loop-again : tie.Need-loop-again Inv-loop μ-loop
+loop-again c = (omega arith, rw (c .before .before .loop .inv .1, c .wide .ensures .0) (sym (sumTo-more _ _)), omega arith)
+
+returns : tie.Need-returns Inv-loop μ-loop
+returns c = (rw (le-antisymm (c .before .loop .inv .0) (c .loop-test .left)) at (c .before .loop .inv .1), omega arith)
+
+pub first-spec : {M : Type 1} → statement M
+first-spec =
+    tie.close
+    (tie.spec
+    Inv-loop
+    μ-loop
+    loop-holds
+    mul-wide
+    array-read-wide
+    wide-requires
+    add-before
+    add-q
+    loop-less
+    loop-again
+    returns)

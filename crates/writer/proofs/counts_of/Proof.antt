@@ -1,0 +1,59 @@
+-- After p turns the first p places are the counts'; the array has eight.
+use mathlib.Core.Path.{_≡_, refl}
+use mathlib.Core.List.{_++_}
+use Prim.Native.Nat.{_-_, _≤_}
+use native.Mathlib.Omega.{arith}
+use lib.ListN.{length, drop}
+use borrow.Author.Needs.{needs}
+use Rattle.cuts.specs.Below.{tab}
+use Rattle.cuts.specs.Cut.{at}
+use Rattle.cuts.proofs.TabLaws.{tab-none, tab-more, tab-full}
+use Rattle.writer.proofs.counts_of.Statement.{statement}
+use Rattle.writer.proofs.counts_of.Tie as tie
+
+abbrev Inv-loop : tie.InvT-loop
+Inv-loop counts m₀ p₀ m p = (p ≤ 8) × (m ≡ tab p (at counts) ++ drop p m₀) × (length m₀ ≡ 8)
+
+abbrev μ-loop : tie.MeasureT-loop
+μ-loop counts m₀ p₀ m p = 8 - p
+
+loop-holds : tie.Need-loop-holds Inv-loop μ-loop
+loop-holds c = (omega arith, tab-none _ _, refl)
+
+count-at-requires : tie.Need-count-at-requires Inv-loop μ-loop
+count-at-requires c κs = search needs
+
+mul-m : tie.Need-mul-m Inv-loop μ-loop
+mul-m c = search needs
+
+array-write-m : tie.Need-array-write-m Inv-loop μ-loop
+array-write-m c = search needs
+
+add-p : tie.Need-add-p Inv-loop μ-loop
+add-p c = search needs
+
+loop-less : tie.Need-loop-less Inv-loop μ-loop
+loop-less c = search needs
+
+loop-again : tie.Need-loop-again Inv-loop μ-loop
+loop-again c = let L = c .before .before .loop in
+    (omega arith, rw (L .inv .1, c .count-at .ensures .0) (tab-more _ _ _ (omega arith)), L .inv .2)
+
+returns : tie.Need-returns Inv-loop μ-loop
+returns c = let L = c .before .loop in
+    rw (L .inv .1) (tab-full _ 8 _ _ (L .inv .0) (c .loop-test .left) (L .inv .2))
+
+pub counts-of-spec : {M : Type 1} → statement M
+counts-of-spec =
+    tie.close
+    (tie.spec
+    Inv-loop
+    μ-loop
+    loop-holds
+    count-at-requires
+    mul-m
+    array-write-m
+    add-p
+    loop-less
+    loop-again
+    returns)

@@ -1,0 +1,34 @@
+-- Two fields are put, one behind the other.
+use mathlib.Core.Path.{refl, _∙_}
+use mir.Facts.{toZ-ofZ}
+use borrow.Author.Needs.{needs}
+use Rattle.writer.specs.Pack.{putStation}
+use Rattle.writer.proofs.put_station.Statement.{statement}
+use Rattle.writer.proofs.put_station.Tie as tie
+
+put-requires : tie.Need-put-requires
+put-requires c κs = search needs
+
+add-put : tie.Need-add-put
+add-put c = search needs
+
+level-bits-requires : tie.Need-level-bits-requires
+level-bits-requires c κs = search needs
+
+put-requires-2 : tie.Need-put-requires-2
+put-requires-2 c κs = search needs
+
+same-length : tie.Need-same-length
+same-length c = search needs
+
+returns : tie.Need-returns
+unfolding putStation
+returns c =
+    let b = c .before .before .before in
+    let a = b .before .before .before .before in
+    c .before .before .put2 .ensures .bytes ∙ rw (b .level-bits .ensures, toZ-ofZ (a .before .before .before .fits .start), a .put .ensures .bytes) refl
+
+pub put-station-spec : {M : Type 1} → statement M
+put-station-spec =
+    tie.close
+    (tie.spec put-requires add-put level-bits-requires put-requires-2 same-length returns)

@@ -1,0 +1,73 @@
+-- After p turns the parts of the first p stations are put; a turn puts one more.
+use mathlib.Core.Path.{_≡_, refl, _∙_}
+use Prim.Native.Nat.{_-_, _≤_}
+use native.Mathlib.Nat.{le-antisymm}
+use native.Mathlib.Omega.{arith}
+use lib.ListN.{length}
+use borrow.Author.Needs.{needs}
+use Rattle.writer.specs.Pack.{turns, stationTurn}
+use Rattle.writer.proofs.WriterLaws.{held-signed}
+use Rattle.writer.proofs.PackLaws.{turns-none, station-more}
+use Rattle.writer.proofs.put_stations.Statement.{statement}
+use Rattle.writer.proofs.put_stations.Tie as tie
+
+abbrev Inv-loop : tie.InvT-loop
+Inv-loop room₀ lead w n counts starts p₀ room p = (p ≤ n) × (length room ≡ length room₀) × (room ≡ turns (stationTurn lead w counts starts) room₀ p)
+
+abbrev μ-loop : tie.MeasureT-loop
+μ-loop room₀ lead w n counts starts p₀ room p = n - p
+
+loop-holds : tie.Need-loop-holds Inv-loop μ-loop
+loop-holds c = (omega arith, refl, turns-none _ _)
+
+station-bit-requires : tie.Need-station-bit-requires Inv-loop μ-loop
+station-bit-requires c κs = search needs
+
+count-at-requires : tie.Need-count-at-requires Inv-loop μ-loop
+count-at-requires c κs = search needs
+
+level-at-requires : tie.Need-level-at-requires Inv-loop μ-loop
+level-at-requires c κs = search needs
+
+put-station-requires : tie.Need-put-station-requires Inv-loop μ-loop
+put-station-requires c κs = search needs
+
+add-p : tie.Need-add-p Inv-loop μ-loop
+add-p c = search needs
+
+loop-less : tie.Need-loop-less Inv-loop μ-loop
+loop-less c = search needs
+
+loop-again : tie.Need-loop-again Inv-loop μ-loop
+loop-again c =
+    let P = c .before .before in
+    let v = P .before .before in
+    let B = v .before .before in
+    let L = B .before .before .loop in (
+      omega arith,
+      P .put-station .kept .0 ∙ L .inv .1,
+      P .put-station .ensures ∙ station-more _ _ _ _ _ _ _ _ _ _ (B .station-bit .ensures .0) (v .before .count-at .ensures .0) (held-signed _ (v .level-at .ok) ∙ v .level-at .ensures) (L .inv .2),
+    )
+
+same-length : tie.Need-same-length Inv-loop μ-loop
+same-length c = c .before .loop .inv .1
+
+returns : tie.Need-returns Inv-loop μ-loop
+returns c = rw (le-antisymm (c .before .loop .inv .0) (c .loop-test .left)) at (c .before .loop .inv .2)
+
+pub put-stations-spec : {M : Type 1} → statement M
+put-stations-spec =
+    tie.close
+    (tie.spec
+    Inv-loop
+    μ-loop
+    loop-holds
+    station-bit-requires
+    count-at-requires
+    level-at-requires
+    put-station-requires
+    add-p
+    loop-less
+    loop-again
+    same-length
+    returns)

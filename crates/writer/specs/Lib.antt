@@ -1,0 +1,4 @@
+pub mod Write
+pub mod Tables
+pub mod Pack
+pub mod Again
