@@ -39,7 +39,8 @@ const WIDTH: usize = 8;
 pub fn check(s: &[u8]) -> Checked
     ensures { λ r. ⌜ r ≡ checkedOf lead8 width8 (now (s .entry)) ⌝ }
 {
-    records::check_form(LEAD, WIDTH, s)
+    let mut rows = [0u16; 32704];
+    records::check_rows(LEAD, WIDTH, s, &mut rows)
 }
 
 // The checks and, where they accept, the tables of stamps and levels into the fronts of the rooms.

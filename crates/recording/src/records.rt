@@ -3,7 +3,7 @@ ghost use mathlib.Core.Path.{_≡_};
 ghost use Prim.Native.Nat.{_≤_, _<_};
 ghost use lib.ListN.{length};
 ghost use Rattle.recording.specs.Form.{mAt, recordingOf};
-ghost use Rattle.recording.specs.Check.{checkedRecords, checkedOf};
+ghost use Rattle.recording.specs.Check.{checkedRecords};
 ghost use Rattle.recording.specs.Decode.{Laid};
 ghost use Rattle.recording.specs.Decoded.{CheckedRows};
 ghost use Rattle.recording.specs.Fault.{formFault, faultAt, checkedStation};
@@ -11,16 +11,7 @@ use crate::Checked;
 use crate::Refusal;
 use crate::form;
 
-// The checks in the written order.
-pub fn check_form(lead: usize, w: usize, s: &[u8]) -> Checked
-    requires { ⌜ (4 ≤ lead) × (lead ≤ 8) × (1 ≤ w) × (w ≤ 9) ⌝ }
-    ensures { λ r. ⌜ r ≡ checkedOf lead w (now (s .entry)) ⌝ }
-{
-    let mut rows = [0u16; 32704];
-    check_rows(lead, w, s, &mut rows)
-}
-
-// The same, with a room for the table of stamps, which stands in front of it where the recording is accepted.
+// The checks in the written order, with a room for the table of stamps, which stands in front of it where the recording is accepted.
 pub fn check_rows(lead: usize, w: usize, s: &[u8], rows: &mut [u16]) -> Checked
     requires { ⌜ (4 ≤ lead) × (lead ≤ 8) × (1 ≤ w) × (w ≤ 9) × (length (now rows) ≡ 32704) ⌝ }
     ensures { λ r. ⌜ CheckedRows lead w (now (s .entry)) r (now (rows .exit)) ⌝ }
