@@ -15,7 +15,7 @@ use Rattle.bits.proofs.BitsLaws.{field-lt}
 use Rattle.levels.specs.Level.{twos}
 use Rattle.cuts.specs.Below.{every}
 use Rattle.cuts.proofs.BelowLaws.{and-true, or-second, every-true}
-use Rattle.cuts.proofs.ValueLaws.{refuted}
+use Rattle.cuts.proofs.ReplyLaws.{refuted}
 use Rattle.condition.specs.Condition.{kindAt, kAt, lowAt, highAt, askedAt, windowLow, windowHigh, windowOk, upright, zeros, conditionOk}
 use Rattle.condition.specs.Condition.{Above, NotZero, Broken, kind-three, k-above, k-unused, ends-unused, window-of-sum, window-unasked, window-above, ends-above}
 use Rattle.condition.proofs.FieldLaws.{Kept, kOk, endsOk, conditionOk-kept, conditionOk-windows, windowOk-sum, windowOk-other}

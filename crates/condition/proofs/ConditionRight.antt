@@ -16,7 +16,7 @@ use Rattle.levels.proofs.LevelLaws.{sub-le, sub-eq, sub-add, levelOf-excess, ex
 use Rattle.cuts.specs.Below.{sumTo}
 use Rattle.cuts.proofs.BelowLaws.{every-same, true-every, sumTo-same, getD-tab}
 use Rattle.cuts.specs.Cut.{at}
-use Rattle.cuts.proofs.ValueRight.{replies-equal}
+use Rattle.cuts.proofs.ReplyLaws.{replies-equal}
 use Rattle.condition.specs.Condition.{kindAt, kAt, lowAt, highAt, windowLow, windowHigh, conditionOk, kindOf, windowOf, conditionOf, refusedOf, readOf}
 use Rattle.condition.specs.Condition.{boundOf, paperOf, windowAt, noWindow, between, lies, inside, sumAsked, holdsBy, holdsOf, Says, Broken}
 use Rattle.condition.specs.declared.Kind.{Kind}

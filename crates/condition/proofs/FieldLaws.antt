@@ -18,7 +18,7 @@ use Rattle.levels.specs.Level.{twos}
 use Rattle.levels.proofs.LevelLaws.{sub-pos, sub-eq, sub-le}
 use Rattle.cuts.proofs.BelowLaws.{and-true, and-false, length-tab}
 use Rattle.cuts.proofs.TabLaws.{front-more}
-use Rattle.cuts.proofs.ValueLaws.{refuted}
+use Rattle.cuts.proofs.ReplyLaws.{refuted}
 use Rattle.condition.specs.Condition.{boundOf, raisedOf, upright, zeros, kindAt, kAt, lowAt, highAt, kindOf, askedAt, windowLow, windowHigh, windowOk, conditionOk, conditionOf, refusedOf, readOf, noWindow, noCondition}
 use Rattle.condition.specs.declared.Kind.{Kind}
 use Rattle.condition.specs.declared.Window.{Window}

@@ -1,4 +1,5 @@
 pub mod BelowLaws
+pub mod ReplyLaws
 pub mod TabLaws
 pub mod CutLaws
 pub mod RankLaws
@@ -14,5 +15,3 @@ pub mod StationsRight
 pub mod DemandRight
 pub mod Settled
 pub mod PathForward
-pub mod ValueLaws
-pub mod ValueRight

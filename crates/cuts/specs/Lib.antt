@@ -7,5 +7,4 @@ pub mod Computed
 pub mod Trace
 pub mod Orders
 pub mod Working
-pub mod Value
 pub mod Examples

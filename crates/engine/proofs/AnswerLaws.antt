@@ -11,8 +11,8 @@ use lib.ListN.{length, take, length-take}
 use lib.Seq.{getD-take}
 use Rattle.cuts.specs.Cut.{at, total}
 use Rattle.cuts.specs.Computed.{possOf, defOf}
-use Rattle.cuts.specs.Value.{countsOf}
-use Rattle.cuts.specs.declared.Cut.{Cut}
+use Rattle.cut.specs.Value.{countsOf}
+use Rattle.cut.specs.declared.Cut.{Cut}
 use Rattle.cuts.proofs.VerdictRight.{poss-right, poss-unique, def-right, def-unique}
 use Rattle.recording.specs.Form.{lead8, width8}
 use Rattle.recording.specs.Check.{atWhole, checkedOf}

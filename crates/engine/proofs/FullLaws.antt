@@ -11,10 +11,10 @@ use borrow.Author.Tests.{le-leb}
 use Rattle.cuts.specs.Below.{tab}
 use Rattle.cuts.specs.Cut.{at, total}
 use Rattle.cuts.specs.Rank.{box}
-use Rattle.cuts.specs.Value.{countsOf, FullCut, boxOf}
-use Rattle.cuts.specs.declared.Cut.{Cut}
+use Rattle.cut.specs.Value.{countsOf, FullCut, boxOf}
+use Rattle.cut.specs.declared.Cut.{Cut}
 use Rattle.cuts.proofs.BelowLaws.{length-tab, getD-tab, sumTo-same}
-use Rattle.cuts.proofs.ValueRight.{boxOf-full}
+use Rattle.cut.proofs.ValueRight.{boxOf-full}
 use Rattle.recording.specs.Recording as recorded
 use Rattle.recording.specs.Form.{recordingOf, lead8, width8, nAt, mAt, firstAt}
 use Rattle.recording.specs.Check.{checkedOf}

@@ -10,8 +10,8 @@ use lib.ListN.{length, take, drop, replicate, length-drop, length-replicate}
 use lib.Seq.{take-all}
 use Rattle.cuts.specs.Cut.{at, total}
 use Rattle.cuts.specs.Rank.{box}
-use Rattle.cuts.specs.Value.{boxOf}
-use Rattle.cuts.specs.declared.Cut.{Cut}
+use Rattle.cut.specs.Value.{boxOf}
+use Rattle.cut.specs.declared.Cut.{Cut}
 use Rattle.recording.specs.Recording as recorded
 use Rattle.recording.specs.Form.{lead8, width8}
 use Rattle.recording.specs.Check.{faultOf, atWhole, checkedOf}

@@ -16,8 +16,8 @@ use Rattle.cuts.specs.Rank.{rank, box, unrank}
 use Rattle.cuts.specs.Verdict.{Says, PossIs, DefIs}
 use Rattle.cuts.specs.Computed.{markOf, table, possOf, defOf}
 use Rattle.cuts.specs.Trace.{Formed, Stamped}
-use Rattle.cuts.specs.Value.{countsOf}
-use Rattle.cuts.specs.declared.Cut.{Cut}
+use Rattle.cut.specs.Value.{countsOf}
+use Rattle.cut.specs.declared.Cut.{Cut}
 use Rattle.cuts.proofs.BelowLaws.{length-tab, getD-tab}
 use Rattle.cuts.proofs.CutLaws.{within-length}
 use Rattle.cuts.proofs.RankLaws.{rank-lt, rank-unrank, unrank-within}

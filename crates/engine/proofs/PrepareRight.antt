@@ -15,7 +15,7 @@ use borrow.Author.Tests.{le-leb, le-ltb, eq-eqb, ne-eqb}
 use Rattle.cuts.specs.Below.{sumTo, tab}
 use Rattle.cuts.specs.Cut.{at, Within}
 use Rattle.cuts.specs.Trace.{Messages, Stamps, Levels, agrees, atCut}
-use Rattle.cuts.specs.declared.Cut.{Cut}
+use Rattle.cut.specs.declared.Cut.{Cut}
 use Rattle.cuts.proofs.BelowLaws.{every-same, sumTo-scale, sumTo-same, getD-tab}
 use Rattle.cuts.proofs.CutLaws.{within-at}
 use Rattle.levels.specs.Level.{levelOf}

@@ -13,12 +13,12 @@ use Rattle.cuts.specs.Below.{every, tab}
 use Rattle.cuts.specs.Cut.{at, total, Within}
 use Rattle.cuts.specs.Rank.{box}
 use Rattle.cuts.specs.Computed.{table, possOf, defOf}
-use Rattle.cuts.specs.Value.{countsOf}
-use Rattle.cuts.specs.declared.Cut.{Cut}
-use Rattle.cuts.specs.declared.Moved.{Moved}
+use Rattle.cut.specs.Value.{countsOf}
+use Rattle.cut.specs.declared.Cut.{Cut}
+use Rattle.cut.specs.declared.Moved.{Moved}
 use Rattle.cuts.proofs.BelowLaws.{getD-tab, every-true, true-every}
 use Rattle.cuts.proofs.CutLaws.{within-at}
-use Rattle.cuts.proofs.ValueRight.{isFull-is}
+use Rattle.cut.proofs.ValueRight.{isFull-is}
 use Rattle.levels.specs.Level.{levelOf}
 use Rattle.recording.specs.Recording as recorded
 use Rattle.recording.specs.Form.{recordingOf, lead8, width8, nAt}

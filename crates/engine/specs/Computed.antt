@@ -11,7 +11,7 @@ use Rattle.cuts.specs.Rank.{box}
 use Rattle.cuts.specs.Verdict.{Lattice}
 use Rattle.cuts.specs.Computed.{table, possOf, defOf}
 use Rattle.cuts.specs.Trace.{lattice, atCut}
-use Rattle.cuts.specs.declared.Cut.{Cut}
+use Rattle.cut.specs.declared.Cut.{Cut}
 use Rattle.recording.specs.Recording.{Recording, messages, stamps, levels}
 use Rattle.recording.specs.Recording as recorded
 use Rattle.recording.specs.Form.{recordingOf, lead8, width8}

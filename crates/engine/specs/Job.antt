@@ -13,8 +13,8 @@ use Rattle.cuts.specs.Rank.{rank, box}
 use Rattle.cuts.specs.Verdict.{Lattice, Says, PossIs, DefIs}
 use Rattle.cuts.specs.Trace.{lattice, atCut}
 use Rattle.cuts.specs.Orders.{ByOrders}
-use Rattle.cuts.specs.Value.{countsOf}
-use Rattle.cuts.specs.declared.Cut.{Cut}
+use Rattle.cut.specs.Value.{countsOf}
+use Rattle.cut.specs.declared.Cut.{Cut}
 use Rattle.recording.specs.Recording.{Recording, messages, stamps, levels}
 use Rattle.recording.specs.Recording as recorded
 use Rattle.recording.specs.Form.{recordingOf, lead8, width8}

@@ -8,7 +8,7 @@ use lib.ListN.{length}
 use lib.Dec.{eqb, ltb}
 use Rattle.cuts.specs.Below.{sumTo, tab}
 use Rattle.cuts.specs.Cut.{at}
-use Rattle.cuts.specs.declared.Cut.{Cut}
+use Rattle.cut.specs.declared.Cut.{Cut}
 use Rattle.condition.specs.Weigh.{weighOf, within}
 use Rattle.condition.specs.declared.Condition.{Condition}
 use Rattle.condition.specs.declared.Limits.{Limits}

@@ -3,7 +3,7 @@ ghost use mathlib.Core.Path.{_≡_};
 ghost use Rattle.text.specs.Text.{Printed};
 ghost use Rattle.engine.specs.Job.{Judged, refusedBy, wholly};
 ghost use Rattle.engine.specs.Answer.{textOf};
-use cuts::Cut;
+use cut::Cut;
 use recording::Checked;
 use recording::Decoded;
 use recording::Refusal;

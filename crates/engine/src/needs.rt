@@ -6,7 +6,7 @@ ghost use lib.ListN.{length, take, drop};
 ghost use Rattle.cuts.specs.Below.{tab};
 ghost use Rattle.cuts.specs.Cut.{at};
 ghost use Rattle.engine.specs.Prepare.{Short, rowsTo, stationNeed, needsTo};
-use cuts::Cut;
+use cut::Cut;
 
 // The rows before those of each station.
 pub fn bases(full: Cut) -> [usize; 8]

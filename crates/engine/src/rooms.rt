@@ -3,13 +3,13 @@ ghost use mathlib.Core.Path.{_≡_};
 ghost use mathlib.Core.Bool.{_||_, not};
 ghost use Prim.Native.Nat.{_≤_};
 ghost use lib.Dec.{ltb};
-ghost use Rattle.cuts.specs.Value.{boxOf};
+ghost use Rattle.cut.specs.Value.{boxOf};
 ghost use Rattle.recording.specs.Check.{faultOf};
 ghost use Rattle.engine.specs.Job.{noneAbove, roomTests};
 ghost use Rattle.engine.specs.Prepare.{Short, firstOf};
 use crate::needs;
 use condition::Condition;
-use cuts::Cut;
+use cut::Cut;
 
 // The number of the first test that fails, 0 if none does.
 pub fn fault(c: Condition, full: Cut, marks: usize, path: usize) -> u8
@@ -19,7 +19,7 @@ pub fn fault(c: Condition, full: Cut, marks: usize, path: usize) -> u8
     if !none_above(c, full.n) {
         return 9;
     }
-    let b = cuts::box_of(full);
+    let b = cut::box_of(full);
     if 65536 < b {
         return 10;
     }

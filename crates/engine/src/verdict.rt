@@ -8,7 +8,7 @@ use crate::needs;
 use crate::weights;
 use condition::Condition;
 use condition::Limits;
-use cuts::Cut;
+use cut::Cut;
 use recording::Checked;
 
 // The verdicts of an accepted recording, whose tables are handed in, where the rooms suffice; marks and path filled.

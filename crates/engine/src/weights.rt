@@ -7,7 +7,7 @@ ghost use Rattle.cuts.specs.Below.{tab};
 ghost use Rattle.engine.specs.Prepare.{Short, rowsTo, stationWeight, weightsTo};
 use crate::needs;
 use condition::Condition;
-use cuts::Cut;
+use cut::Cut;
 
 // What all stations add after each of their events, into the front of the room.
 pub fn lay_weights(c: Condition, full: Cut, starts: [u16; 8], levels: &[u16], weights: &mut [u16])

@@ -21,7 +21,7 @@ use Rattle.levels.specs.Level.{twos}
 use Rattle.levels.proofs.LevelLaws.{twos-mag}
 use Rattle.cuts.specs.Below.{sumTo, tab}
 use Rattle.cuts.specs.Cut.{at}
-use Rattle.cuts.specs.declared.Cut.{Cut}
+use Rattle.cut.specs.declared.Cut.{Cut}
 use Rattle.cuts.proofs.BelowLaws.{and-true, getD-tab, sumTo-same, tab-same}
 use Rattle.recording.specs.Recording.{Recording, countsOf, stamps}
 use Rattle.recording.specs.Form.{stationBit, recordBit, nAt, mAt, startAt, firstAt, originAt, numberAt, levelAt, countAt, recordingOf}

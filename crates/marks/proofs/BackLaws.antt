@@ -13,8 +13,8 @@ use Rattle.cuts.specs.Below.{first, tab}
 use Rattle.cuts.specs.Cut.{at, back, Within}
 use Rattle.cuts.specs.Rank.{weight, rank, box}
 use Rattle.cuts.specs.Computed.{leads, walk}
-use Rattle.cuts.specs.Value.{countsOf, FullCut}
-use Rattle.cuts.specs.declared.Cut.{Cut}
+use Rattle.cut.specs.Value.{countsOf, FullCut}
+use Rattle.cut.specs.declared.Cut.{Cut}
 use Rattle.cuts.proofs.BelowLaws.{and-true, productTo-same, length-tab, getD-tab, first-is}
 use Rattle.cuts.proofs.CutLaws.{within-back, within-full, within-length}
 use Rattle.cuts.proofs.RankLaws.{weight-pos, rank-nil, rank-cons, box-nil, box-cons, rank-back}

@@ -15,13 +15,14 @@ use Rattle.cuts.specs.Below.{every, any, sumTo, tab}
 use Rattle.cuts.specs.Cut.{at, zeros, back, total, Within}
 use Rattle.cuts.specs.Rank.{rank, unrank, box}
 use Rattle.cuts.specs.Computed.{leads, met, markOf, tabled}
-use Rattle.cuts.specs.Value.{countsOf, FullCut}
-use Rattle.cuts.specs.declared.Cut.{Cut}
+use Rattle.cut.specs.Value.{countsOf, FullCut}
+use Rattle.cut.specs.declared.Cut.{Cut}
 use Rattle.cuts.proofs.BelowLaws.{and-false, every-same, every-true, true-every, sumTo-same, length-tab, getD-tab}
 use Rattle.cuts.proofs.CutLaws.{zeros-of, within-at}
 use Rattle.cuts.proofs.RankLaws.{unrank-within, rank-unrank, rank-zeros}
 use Rattle.cuts.proofs.TabledRight.{length-tabled}
-use Rattle.cuts.proofs.ValueLaws.{refuted, at-countsOf}
+use Rattle.cut.proofs.ValueLaws.{at-countsOf}
+use Rattle.cuts.proofs.ReplyLaws.{refuted}
 use Rattle.marks.specs.declared.Task.{Task}
 use Rattle.marks.specs.declared.Row.{Row}
 use Rattle.marks.specs.Flat.{rowMet, between, flatConsistent, flatHolds}

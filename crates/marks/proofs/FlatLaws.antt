@@ -14,12 +14,12 @@ use Rattle.cuts.specs.Below.{every, first}
 use Rattle.cuts.specs.Cut.{at, total}
 use Rattle.cuts.specs.Rank.{box, rank, unrank}
 use Rattle.cuts.specs.Computed.{table}
-use Rattle.cuts.specs.Value.{isFull, countsOf, boxOf, FullCut}
-use Rattle.cuts.specs.declared.Cut.{Cut}
-use Rattle.cuts.specs.declared.Moved.{Moved}
+use Rattle.cut.specs.Value.{isFull, countsOf, boxOf, FullCut}
+use Rattle.cut.specs.declared.Cut.{Cut}
+use Rattle.cut.specs.declared.Moved.{Moved}
 use Rattle.cuts.proofs.BelowLaws.{and-true, every-true}
-use Rattle.cuts.proofs.ValueLaws.{refuted}
-use Rattle.cuts.proofs.ValueRight.{isFull-is, boxOf-full, boxOf-none}
+use Rattle.cuts.proofs.ReplyLaws.{refuted}
+use Rattle.cut.proofs.ValueRight.{isFull-is, boxOf-full, boxOf-none}
 use Rattle.marks.specs.Flat.{rowThere, flat, fillable, filled, cutOfCounts, witnessOf, walkable, walked}
 use Rattle.marks.specs.Rows.{Ready, wayTo}
 use Rattle.marks.proofs.SearchLaws.{tests-same, and-both}

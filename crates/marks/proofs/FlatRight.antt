@@ -14,13 +14,14 @@ use Rattle.cuts.specs.Cut.{at, back, total, Within}
 use Rattle.cuts.specs.Rank.{box, rank, unrank}
 use Rattle.cuts.specs.Verdict.{Lattice}
 use Rattle.cuts.specs.Computed.{leads, markOf, tabled, table, looked, walk, possOf, defOf}
-use Rattle.cuts.specs.Value.{countsOf, FullCut}
-use Rattle.cuts.specs.declared.Cut.{Cut}
-use Rattle.cuts.specs.declared.Moved.{Moved}
+use Rattle.cut.specs.Value.{countsOf, FullCut}
+use Rattle.cut.specs.declared.Cut.{Cut}
+use Rattle.cut.specs.declared.Moved.{Moved}
 use Rattle.cuts.proofs.CutLaws.{within-back, within-full}
 use Rattle.cuts.proofs.RankLaws.{rank-lt, unrank-within}
 use Rattle.cuts.proofs.TabledRight.{length-tabled}
-use Rattle.cuts.proofs.ValueRight.{isFull-is, replies-equal}
+use Rattle.cut.proofs.ValueRight.{isFull-is}
+use Rattle.cuts.proofs.ReplyLaws.{replies-equal}
 use Rattle.marks.specs.Flat.{plain, fillable, filled, cutOfCounts, witnessOf, walkable, walked}
 use Rattle.marks.proofs.SearchLaws.{first-same}
 

@@ -12,12 +12,12 @@ use lib.Seq.{length-take-le, drop-at, drop-set-lt, drop-append-add, drop-drop}
 use Rattle.cuts.specs.Below.{sumTo, tab}
 use Rattle.cuts.specs.Cut.{at, total}
 use Rattle.cuts.specs.Rank.{weight, unrank, box}
-use Rattle.cuts.specs.Value.{countsOf, FullCut}
-use Rattle.cuts.specs.declared.Cut.{Cut}
+use Rattle.cut.specs.Value.{countsOf, FullCut}
+use Rattle.cut.specs.declared.Cut.{Cut}
 use Rattle.cuts.proofs.BelowLaws.{sumTo-first, productTo-same, tab-same, length-tab, getD-tab}
 use Rattle.cuts.proofs.RankLaws.{weight-zero, weight-cons, box-cons}
 use Rattle.cuts.proofs.TabLaws.{front-more}
-use Rattle.cuts.proofs.ValueLaws.{at-countsOf, weight-more}
+use Rattle.cut.proofs.ValueLaws.{at-countsOf, weight-more}
 use Rattle.marks.specs.Rows.{cutAt, topAt, RowAt}
 
 -- the events of the first n stations

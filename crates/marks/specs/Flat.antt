@@ -12,9 +12,9 @@ use Rattle.cuts.specs.Cut.{at, total}
 use Rattle.cuts.specs.Rank.{box, rank, unrank}
 use Rattle.cuts.specs.Verdict.{Lattice}
 use Rattle.cuts.specs.Computed.{table, walk}
-use Rattle.cuts.specs.Value.{isFull, countsOf}
-use Rattle.cuts.specs.declared.Cut.{Cut}
-use Rattle.cuts.specs.declared.Moved.{Moved}
+use Rattle.cut.specs.Value.{isFull, countsOf}
+use Rattle.cut.specs.declared.Cut.{Cut}
+use Rattle.cut.specs.declared.Moved.{Moved}
 
 -- the n numbers of `needs` from place `from` on are no more than the counts of c
 unfoldable pub rowMet : ℕ → List ℕ → ℕ → List ℕ → Bool

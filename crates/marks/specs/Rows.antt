@@ -13,8 +13,8 @@ use Rattle.cuts.specs.Cut.{at}
 use Rattle.cuts.specs.Rank.{box, rank, unrank, weight}
 use Rattle.cuts.specs.Verdict.{Lattice}
 use Rattle.cuts.specs.Computed.{number, tabled, markOf, walk}
-use Rattle.cuts.specs.Value.{countsOf, FullCut}
-use Rattle.cuts.specs.declared.Cut.{Cut}
+use Rattle.cut.specs.Value.{countsOf, FullCut}
+use Rattle.cut.specs.declared.Cut.{Cut}
 use Rattle.marks.specs.declared.Task.{Task}
 use Rattle.marks.specs.declared.Row.{Row}
 use Rattle.marks.specs.Flat.{rowMet, between, flat, plain}

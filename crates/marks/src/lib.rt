@@ -9,11 +9,11 @@ ghost use lib.ListN.{length, take, drop, replicate};
 ghost use Rattle.cuts.specs.Below.{every, first};
 ghost use Rattle.cuts.specs.Cut.{at, back, total};
 ghost use Rattle.cuts.specs.Rank.{box, rank, unrank};
-ghost use Rattle.cuts.specs.Value.{countsOf, FullCut};
+ghost use Rattle.cut.specs.Value.{countsOf, FullCut};
 ghost use Rattle.marks.specs.Flat.{rowMet, between, rowThere, fillable, filled, cutOfCounts, witnessOf, walkable, walked};
 ghost use Rattle.marks.specs.Rows.{cutWith, topAt, stridesOf, leadsBack, StepsBack, Eights, NeedsThere, WeightsThere, othersMet, othersNeed, othersAdd, marksTo, Ready, RowAt, rowMark, rowMarks, CutReady, RowReady, wayTo};
-use cuts::Cut;
-use cuts::Moved;
+use cut::Cut;
+use cut::Moved;
 
 // What a box is filled for: the recording's full cut, where each station's rows begin, and from where to where a sum satisfies.
 struct Task {
@@ -45,7 +45,7 @@ pub fn fill(
 ) -> bool
     ensures { λ r. ⌜ (r ≡ fillable full bases least most (now (needs .entry)) (now (weights .entry)) (length (now (marks .entry)))) × (now (marks .exit) ≡ filled full bases least most (now (needs .entry)) (now (weights .entry)) (now (marks .entry))) ⌝ }
 {
-    let size = cuts::box_of(full);
+    let size = cut::box_of(full);
     if size < 1 {
         return false;
     }
@@ -79,7 +79,7 @@ pub fn witness(full: Cut, marks: &[u8]) -> Moved
             n: full.n,
         },
     };
-    let size = cuts::box_of(full);
+    let size = cut::box_of(full);
     if 65536 < size {
         return none;
     }
@@ -98,7 +98,7 @@ pub fn witness(full: Cut, marks: &[u8]) -> Moved
 pub fn walk(full: Cut, marks: &[u8], path: &mut [u8]) -> bool
     ensures { λ r. ⌜ (r ≡ walkable full (now (marks .entry)) (length (now (path .entry)))) × (now (path .exit) ≡ walked full (now (marks .entry)) (now (path .entry))) ⌝ }
 {
-    let size = cuts::box_of(full);
+    let size = cut::box_of(full);
     if size < 1 {
         return false;
     }

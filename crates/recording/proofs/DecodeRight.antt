@@ -13,8 +13,8 @@ use Rattle.levels.specs.Level.{levelOf}
 use Rattle.levels.proofs.LevelLaws.{levelOf-excess}
 use Rattle.cuts.specs.Below.{tab}
 use Rattle.cuts.specs.Cut.{at}
-use Rattle.cuts.specs.Value as value
-use Rattle.cuts.specs.declared.Cut.{Cut}
+use Rattle.cut.specs.Value as value
+use Rattle.cut.specs.declared.Cut.{Cut}
 use Rattle.cuts.proofs.BelowLaws.{length-tab, getD-tab, tab-same}
 use Rattle.recording.specs.Recording.{Event, Recording, countsOf, stamps, levels}
 use Rattle.recording.specs.Form.{nAt, mAt, startAt, firstAt, levelAt, countAt, eventOf, recordingOf}

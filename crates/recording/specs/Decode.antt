@@ -9,7 +9,7 @@ use lib.Dec.{leb, ltb}
 use Rattle.bits.specs.Bits.{field}
 use Rattle.levels.specs.Level.{excessOf}
 use Rattle.cuts.specs.Below.{sumTo, tab}
-use Rattle.cuts.specs.declared.Cut.{Cut}
+use Rattle.cut.specs.declared.Cut.{Cut}
 use Rattle.recording.specs.Form.{stationBit, nAt, mAt, firstAt, levelAt, countAt}
 
 module _ (lead w : ℕ) (s : List ℕ) where

@@ -8,7 +8,7 @@ ghost use Rattle.recording.specs.Decode.{fullOf, startsOf};
 mod form;
 mod records;
 
-use cuts::Cut;
+use cut::Cut;
 
 // A refusal: its number, with the station and event of the record that it is about, or 0 and 0.
 pub struct Refusal {

@@ -18,8 +18,8 @@ use Rattle.cuts.specs.Below.{firstFrom, any, every, sumTo, productTo, tab}
 use Rattle.cuts.specs.Cut.{at, total}
 use Rattle.cuts.specs.Rank.{box, rank, unrank, weight}
 use Rattle.cuts.specs.Trace.{agrees}
-use Rattle.cuts.specs.Value.{countsOf}
-use Rattle.cuts.specs.declared.Cut.{Cut}
+use Rattle.cut.specs.Value.{countsOf}
+use Rattle.cut.specs.declared.Cut.{Cut}
 use Rattle.cuts.specs.Computed.{met, markOf, tabled, walk, table, possOf, defOf}
 use Rattle.cuts.proofs.TabledRight.{length-tabled}
 use Rattle.recording.specs.Form.{bytesFor, nAt, stationBit, recordSize, recordBit, mAt, startAt, firstAt, originAt, numberAt, levelAt, countAt, eventOf, recordingOf, needed, padding, lead8, width8}

@@ -10,8 +10,8 @@ use lib.Dec.{leb}
 use lib.ListN.{length, take, length-append}
 use lib.Seq.{take-all}
 use borrow.Author.Tests.{le-leb, lt-leb}
-use Rattle.cuts.specs.Value.{countsOf}
-use Rattle.cuts.specs.declared.Cut.{Cut}
+use Rattle.cut.specs.Value.{countsOf}
+use Rattle.cut.specs.declared.Cut.{Cut}
 use Rattle.text.specs.Text.{numbers, newline, refusedWord, possYes, possNo, defYes, defNo, refusedText, possText, defText, verdictText}
 use Rattle.text.specs.Written.{line, Written}
 use Rattle.text.proofs.TextLaws.{written-then}

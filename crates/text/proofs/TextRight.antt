@@ -12,8 +12,8 @@ use lib.Dec.{lit<}
 use lib.ListN.{length, getD, take, drop, length-append}
 use lib.Seq.{take-at}
 use borrow.Author.Tests.{le-leb}
-use Rattle.cuts.specs.Value.{countsOf}
-use Rattle.cuts.specs.declared.Cut.{Cut}
+use Rattle.cut.specs.Value.{countsOf}
+use Rattle.cut.specs.declared.Cut.{Cut}
 use Rattle.text.specs.Text.{decimalTo, decimal, numbers, refusedText, possText, defText, verdictText, textIn, takenBy, Printed}
 use Rattle.text.specs.Written.{number}
 use Rattle.text.proofs.DecimalLaws.{decimalTo-digit, decimalTo-tens, decimalTo-more, length-decimalTo}

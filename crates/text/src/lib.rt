@@ -4,10 +4,10 @@ ghost use mathlib.Core.List.{[], _∷_};
 ghost use Prim.Native.Nat.{_+_, _≤_, _<_, min};
 ghost use lib.Dec.{leb};
 ghost use lib.ListN.{length};
-ghost use Rattle.cuts.specs.Value.{countsOf};
+ghost use Rattle.cut.specs.Value.{countsOf};
 ghost use Rattle.text.specs.Text.{decimal, numbers, refusedText, possText, defText, verdictText, Printed};
 ghost use Rattle.text.specs.Written.{number, line, Written};
-use cuts::Cut;
+use cut::Cut;
 
 // The words of a reply's lines. Those with no number behind them are whole lines.
 const REFUSED: [u8; 7] = *b"refused";

@@ -1,7 +1,7 @@
 -- Too few bytes, a broken section, and else the condition that they say.
 use mathlib.Core.Path.{sym, _∙_}
 use borrow.Author.Tests.{not-true}
-use Rattle.cuts.proofs.ValueLaws.{answered-true}
+use Rattle.cuts.proofs.ReplyLaws.{answered-true}
 use Rattle.condition.specs.Condition.{conditionOf}
 use Rattle.condition.proofs.FieldLaws.{refusedOf-short, refusedOf-broken, refusedOf-good, readOf-refused, readOf-good}
 use borrow.Author.Needs.{needs}

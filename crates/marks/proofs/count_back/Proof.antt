@@ -3,7 +3,7 @@ use mathlib.Core.Path.{sym}
 use native.Mathlib.Omega.{arith}
 use mir.Syntax.{w16}
 use borrow.Kind.Array.{eInt, good-length}
-use Rattle.cuts.proofs.ValueLaws.{set-back}
+use Rattle.cut.proofs.ValueLaws.{set-back}
 use Rattle.marks.proofs.SearchLaws.{back-beyond, back-none}
 use borrow.Author.Needs.{needs}
 use Rattle.marks.proofs.count_back.Statement.{statement}

@@ -4,7 +4,7 @@ use mathlib.Core.List.{List}
 use Prim.Native.Nat.{ℕ, _+_}
 use native.Mathlib.Nat.{mod-lt}
 use native.Mathlib.Omega.{arith}
-use Rattle.cuts.proofs.ValueLaws.{eight-counts}
+use Rattle.cut.proofs.ValueLaws.{eight-counts}
 use Rattle.marks.specs.Rows.{cutAt}
 use Rattle.marks.proofs.RowLaws.{set-topAt-rank}
 use borrow.Author.Needs.{needs}

@@ -6,10 +6,10 @@ use lib.ListN.{length}
 use mir.Syntax.{w64}
 use borrow.Kind.Array.{eInt, good-length}
 use borrow.Author.Tests.{not-true}
-use Rattle.cuts.specs.Value.{countsOf}
+use Rattle.cut.specs.Value.{countsOf}
 use Rattle.cuts.proofs.RankLaws.{box-pos}
-use Rattle.cuts.proofs.ValueLaws.{eight-counts}
-use Rattle.cuts.proofs.ValueRight.{boxOf-full}
+use Rattle.cut.proofs.ValueLaws.{eight-counts}
+use Rattle.cut.proofs.ValueRight.{boxOf-full}
 use Rattle.marks.specs.Rows.{marksTo}
 use Rattle.marks.proofs.FlatLaws.{sized, box-size, fillable-at, filled-none, filled-some, ready-of}
 use borrow.Author.Needs.{needs}

@@ -8,8 +8,8 @@ use lib.ListN.{drop, replicate}
 use Rattle.cuts.specs.Below.{tab, productTo}
 use Rattle.cuts.specs.Rank.{weight}
 use Rattle.cuts.proofs.TabLaws.{tab-more}
-use Rattle.cuts.proofs.ValueLaws.{eight-counts, weight-le}
-use Rattle.cuts.proofs.ValueRight.{box-loop}
+use Rattle.cut.proofs.ValueLaws.{eight-counts, weight-le}
+use Rattle.cut.proofs.ValueRight.{box-loop}
 use Rattle.marks.specs.Rows.{stridesOf}
 use Rattle.marks.proofs.RowLaws.{weight-next}
 use borrow.Author.Needs.{needs}

@@ -6,7 +6,7 @@ use native.Mathlib.Omega.{arith}
 use Rattle.cuts.specs.Below.{sumTo}
 use Rattle.cuts.specs.Cut.{at}
 use Rattle.cuts.proofs.BelowLaws.{sumTo-more}
-use Rattle.cuts.proofs.ValueLaws.{eight-counts}
+use Rattle.cut.proofs.ValueLaws.{eight-counts}
 use Rattle.marks.proofs.RowLaws.{total-take}
 use borrow.Author.Needs.{needs}
 use Rattle.marks.proofs.total_of.Statement.{statement}

@@ -1,11 +1,11 @@
 -- The size is the box of a full cut within its limit, so the full cut has rank size - 1; each test refuses one part of what makes a way walkable.
 use mathlib.Core.Path.{sym, _∙_}
 use native.Mathlib.Omega.{arith}
-use Rattle.cuts.specs.Value.{countsOf}
+use Rattle.cut.specs.Value.{countsOf}
 use Rattle.cuts.specs.Rank.{rank}
 use Rattle.cuts.specs.Cut.{at}
 use Rattle.cuts.proofs.RankLaws.{box-pos}
-use Rattle.cuts.proofs.ValueRight.{boxOf-full}
+use Rattle.cut.proofs.ValueRight.{boxOf-full}
 use Rattle.marks.proofs.FlatLaws.{sized, box-size, marked-within, walked-none, walked-some}
 use Rattle.marks.proofs.BackLaws.{rank-full}
 use borrow.Author.Needs.{needs}

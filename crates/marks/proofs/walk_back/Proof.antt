@@ -3,9 +3,9 @@ use mathlib.Core.Path.{_≡_, sym, ap, _∙_}
 use Prim.Native.Nat.{_+_, _-_}
 use native.Mathlib.Omega.{arith}
 use lib.ListN.{length, take}
-use Rattle.cuts.specs.Value.{countsOf}
+use Rattle.cut.specs.Value.{countsOf}
 use Rattle.cuts.proofs.RankLaws.{rank-lt}
-use Rattle.cuts.proofs.ValueLaws.{eight-counts}
+use Rattle.cut.proofs.ValueLaws.{eight-counts}
 use Rattle.marks.proofs.BackLaws.{Walked, walked-start, walked-steps, walked-found, walked-more, walked-done, length-stridesOf}
 use borrow.Author.Needs.{needs}
 use Rattle.marks.proofs.walk_back.Statement.{statement}

@@ -1,7 +1,7 @@
 -- The size is the box of a full cut within its limit, and the first rank marked 1 is below it or there is none.
 use native.Mathlib.Omega.{arith}
 use Rattle.cuts.specs.Below.{tab}
-use Rattle.cuts.proofs.ValueRight.{boxOf-full}
+use Rattle.cut.proofs.ValueRight.{boxOf-full}
 use Rattle.marks.proofs.FlatLaws.{sized, box-size, witnessOf-none, witnessOf-some}
 use borrow.Author.Needs.{needs}
 use Rattle.marks.proofs.witness.Statement.{statement}

@@ -4,7 +4,7 @@ use native.Mathlib.Omega.{arith}
 use lib.ListN.{length-take}
 use lib.Seq.{length-take-le}
 use borrow.Author.Needs.{needs}
-use Rattle.cuts.proofs.ValueLaws.{eight-counts}
+use Rattle.cut.proofs.ValueLaws.{eight-counts}
 use Rattle.text.proofs.LineLaws.{poss-no, length-poss-yes, counts-front}
 use Rattle.text.proofs.poss_length.Statement.{statement}
 use Rattle.text.proofs.poss_length.Tie as tie

@@ -3,7 +3,7 @@ use mathlib.Core.Path.{sym}
 use native.Mathlib.Omega.{arith}
 use lib.Seq.{length-take-le}
 use borrow.Author.Needs.{needs}
-use Rattle.cuts.proofs.ValueLaws.{eight-counts}
+use Rattle.cut.proofs.ValueLaws.{eight-counts}
 use Rattle.text.proofs.LineLaws.{poss-yes, poss-no, counts-front}
 use Rattle.text.proofs.put_poss.Statement.{statement}
 use Rattle.text.proofs.put_poss.Tie as tie

@@ -5,7 +5,7 @@ use native.Mathlib.Omega.{arith}
 use lib.ListN.{length}
 use borrow.Author.Needs.{needs}
 use borrow.Author.Tests.{leb-true, leb-false, not-true, not-false}
-use Rattle.cuts.specs.Value.{countsOf}
+use Rattle.cut.specs.Value.{countsOf}
 use Rattle.text.specs.Text.{possText, defText}
 use Rattle.text.proofs.TextLaws.{printed-whole, printed-none}
 use Rattle.text.proofs.LineLaws.{length-verdict, written-verdict}

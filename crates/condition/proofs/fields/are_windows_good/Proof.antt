@@ -8,7 +8,7 @@ use borrow.Author.Needs.{needs}
 use borrow.Author.Tests.{not-true}
 use Rattle.cuts.specs.Below.{every}
 use Rattle.cuts.proofs.BelowLaws.{every-false, every-more}
-use Rattle.cuts.proofs.ValueLaws.{answered-true}
+use Rattle.cuts.proofs.ReplyLaws.{answered-true}
 use Rattle.condition.specs.Condition.{windowOk}
 use Rattle.condition.proofs.fields.are_windows_good.Statement.{statement}
 use Rattle.condition.proofs.fields.are_windows_good.Tie as tie

@@ -1,7 +1,7 @@
 -- Each refusal is one of the section's tests, and where the others pass the windows decide.
 use mathlib.Core.Path.{_∙_, sym}
 use native.Mathlib.Omega.{arith}
-use Rattle.cuts.proofs.ValueLaws.{answered-true, answered-false}
+use Rattle.cuts.proofs.ReplyLaws.{answered-true, answered-false}
 use Rattle.condition.specs.Condition.{kindAt, kAt, lowAt, highAt}
 use Rattle.condition.proofs.FieldLaws.{kOk-said, endsOk-said, conditionOk-broken, conditionOk-windows}
 use borrow.Author.Needs.{needs}

@@ -4,11 +4,12 @@ use Prim.Native.Nat.{ℕ, _-_, _≤_, _<_}
 use native.Mathlib.Omega.{arith}
 use borrow.Author.Count.{below-more}
 use borrow.Author.Needs.{needs}
 use Rattle.cuts.specs.Cut.{at}
-use Rattle.cuts.specs.Value.{mostAt}
-use Rattle.cuts.proofs.ValueLaws.{refuted, under-at}
-use Rattle.cuts.proofs.under.Statement.{statement}
-use Rattle.cuts.proofs.under.Tie as tie
+use Rattle.cut.specs.Value.{mostAt}
+use Rattle.cut.proofs.ValueLaws.{under-at}
+use Rattle.cuts.proofs.ReplyLaws.{refuted}
+use Rattle.cut.proofs.under.Statement.{statement}
+use Rattle.cut.proofs.under.Tie as tie
 
 abbrev Inv-loop : tie.InvT-loop
 Inv-loop full counts p₀ p = (p ≤ 8) × ((q : ℕ) → q < p → at counts q ≤ mostAt full q)

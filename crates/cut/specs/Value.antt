@@ -7,12 +7,12 @@ use mathlib.Core.List.{List}
 use Prim.Native.Nat.{ℕ, _+_, _-_, _≤_, _<_, min}
 use lib.Dec.{leb, ltb, eqb}
 use lib.ListN.{take, set}
 use Rattle.cuts.specs.Below.{every}
 use Rattle.cuts.specs.Cut.{at}
 use Rattle.cuts.specs.Rank.{rank, box}
-use Rattle.cuts.specs.declared.Cut.{Cut}
-use Rattle.cuts.specs.declared.Moved.{Moved}
-use Rattle.cuts.specs.declared.Ranked.{Ranked}
+use Rattle.cut.specs.declared.Cut.{Cut}
+use Rattle.cut.specs.declared.Moved.{Moved}
+use Rattle.cut.specs.declared.Ranked.{Ranked}
 
 -- the counts of the n stations: the cut of the mathematics
 abbrev pub countsOf : Cut → List ℕ

@@ -1,7 +1,7 @@
--- Laws of a cut as a value. In order: tests and their answers; the counts under m; a step that is not found, and one that is; steps on lists;
+-- Laws of a cut as a value. In order: the counts under m; a step that is not found, and one that is; steps on lists;
 -- the eight counts; weights, the box and its ceiling; the rank. Assumes nothing.
 use mathlib.Core.Path.{_≡_, refl, sym, ap, ap₂, _∙_}
-use mathlib.Core.Bool.{Bool, true, false, not, false≢true}
+use mathlib.Core.Bool.{Bool, true, false, false≢true}
 use mathlib.Core.Logic.{_↔_, ⊎-elim}
 use mathlib.Core.List.{List, [], _∷_, map}
 use Prim.Native.Nat.{ℕ, zero, suc, _+_, _-_, _*_, _≤_, _<_, min}
@@ -18,28 +18,15 @@ use mir.Val.{Val}
 use denote.Laws.{Is}
 use denote.Struct.Declared.{row}
 use borrow.Kind.Array.{eInt, good-length}
-use borrow.Author.Tests.{leb-true, lt-ltb, le-ltb, le-leb, not-true, not-false}
+use borrow.Author.Tests.{leb-true, lt-ltb, le-ltb, le-leb}
 use Rattle.cuts.specs.Below.{sumTo, productTo}
 use Rattle.cuts.specs.Cut.{at, forward, back, Within}
 use Rattle.cuts.specs.Rank.{weight, rank, box}
-use Rattle.cuts.specs.Value.{countsOf, mostAt, under, moved, withCount, forwardOf, backOf}
-use Rattle.cuts.specs.declared.Cut.{Cut}
-use Rattle.cuts.specs.declared.Moved.{Moved}
-use Rattle.cuts.proofs.Cut.{the-type}
+use Rattle.cut.specs.Value.{countsOf, mostAt, under, moved, withCount, forwardOf, backOf}
+use Rattle.cut.specs.declared.Cut.{Cut}
+use Rattle.cut.specs.declared.Moved.{Moved}
+use Rattle.cut.proofs.Cut.{the-type}
 use Rattle.cuts.proofs.BelowLaws.{every-true, true-every, sumTo-same, sumTo-more, productTo-same, productTo-more}
-
--- a test that cannot be true is false
-pub refuted : (b : Bool) → (b ≡ true → ⊥) → b ≡ false
-refuted true h = absurd (h refl)
-refuted false h = refl
-
--- a test b whose answer r was taken for true
-pub answered-true : {r b : Bool} → r ≡ b → not r ≡ false → b ≡ true
-answered-true e h = sym e ∙ not-false _ h
-
--- .. and for false
-pub answered-false : {r b : Bool} → r ≡ b → not r ≡ true → b ≡ true → ⊥
-answered-false e h t = false≢true (sym (not-true _ h) ∙ e ∙ t)
 
 pub mostAt-in : (m : Cut) (p : ℕ) → p < m .n → mostAt m p ≡ at (m .counts) p
 unfolding mostAt

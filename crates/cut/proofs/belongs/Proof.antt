@@ -2,11 +2,11 @@
 use mathlib.Core.Path.{sym}
 use borrow.Author.Needs.{needs}
 use borrow.Author.Tests.{eq-eqb}
-use Rattle.cuts.specs.Value.{isCut}
-use Rattle.cuts.proofs.ValueLaws.{refuted, answered-true, answered-false}
-use Rattle.cuts.proofs.ValueRight.{isFull-is, isCut-is}
-use Rattle.cuts.proofs.belongs.Statement.{statement}
-use Rattle.cuts.proofs.belongs.Tie as tie
+use Rattle.cut.specs.Value.{isCut}
+use Rattle.cuts.proofs.ReplyLaws.{refuted, answered-true, answered-false}
+use Rattle.cut.proofs.ValueRight.{isFull-is, isCut-is}
+use Rattle.cut.proofs.belongs.Statement.{statement}
+use Rattle.cut.proofs.belongs.Tie as tie
 
 is-full-requires : tie.Need-is-full-requires
 is-full-requires c κs = search needs

@@ -12,15 +12,16 @@ use lib.Dec.{leb, ltb, eqb}
 use lib.ListN.{length, set, length-set}
 use lib.Seq.{take-set-lt, getD-set-other, getD-set-same, set-set, set-getD}
 use borrow.Author.Tests.{ltb-true, leb-true, eqb-true, lt-ltb, le-leb, eq-eqb}
 use Rattle.cuts.specs.Cut.{at, forward, back, Within}
 use Rattle.cuts.specs.Rank.{weight, rank, box}
-use Rattle.cuts.specs.Value.{mostAt, under, isFull, isCut, isStation, FullCut, CutOf, countsOf, moved, withCount, forwardOf, backOf, boxOf, rankOf}
-use Rattle.cuts.specs.declared.Cut.{Cut}
-use Rattle.cuts.specs.declared.Moved.{Moved}
-use Rattle.cuts.specs.declared.Ranked.{Ranked}
+use Rattle.cut.specs.Value.{mostAt, under, isFull, isCut, isStation, FullCut, CutOf, countsOf, moved, withCount, forwardOf, backOf, boxOf, rankOf}
+use Rattle.cut.specs.declared.Cut.{Cut}
+use Rattle.cut.specs.declared.Moved.{Moved}
+use Rattle.cut.specs.declared.Ranked.{Ranked}
 use Rattle.cuts.proofs.BelowLaws.{and-true}
-use Rattle.cuts.proofs.ValueLaws.{refuted, answered-true, answered-false, mostAt-in, mostAt-beyond, under-at, found-moved}
-use Rattle.cuts.proofs.ValueLaws.{forwardOf-some, backOf-some, at-countsOf, at-set-le, set-forward, set-back, within-take, box-take, rankTo, rank-take}
+use Rattle.cut.proofs.ValueLaws.{mostAt-in, mostAt-beyond, under-at, found-moved}
+use Rattle.cuts.proofs.ReplyLaws.{refuted, answered-true, answered-false, replies-equal}
+use Rattle.cut.proofs.ValueLaws.{forwardOf-some, backOf-some, at-countsOf, at-set-le, set-forward, set-back, within-take, box-take, rankTo, rank-take}
 
 -- under in the law's words: no count above its m, none beyond n that is not 0
 pub record Under (m c : Cut) : Type 0 where
@@ -206,10 +207,6 @@ pub rankOf-loop : (m c : Cut) → CutOf m c → length (m .counts) ≡ 8 → wei
 rankOf-loop m c d l h =
     rankOf-some m c d (omega (arith, box-loop m (d .full) l))
     ∙ ap Ranked.At (rw (d .same-n) (rank-take (m .counts) (c .counts) (m .n) (omega (arith, d .full .most-eight))))
-
--- a contract that gives the reply by an equation permits one reply
-pub replies-equal : {A : Type 0} {a r r′ : A} → r ≡ a → r′ ≡ a → r ≡ r′
-replies-equal e f = e ∙ sym f
 
 pub forward-unique : (m c : Cut) (s : ℕ) (r r′ : Moved) → r ≡ forwardOf m c s → r′ ≡ forwardOf m c s → r ≡ r′
 forward-unique m c s r r′ = replies-equal

@@ -1,10 +1,10 @@
 -- Each return without a step refutes one part of `back-found`; where all of them hold, the count at the station's place is one lower.
 use native.Mathlib.Omega.{arith}
 use borrow.Author.Needs.{needs}
-use Rattle.cuts.proofs.ValueLaws.{backOf-none, backOf-some}
-use Rattle.cuts.proofs.ValueRight.{cut-answered, no-cut-answered, back-found}
-use Rattle.cuts.proofs.Cut.back.Statement.{statement}
-use Rattle.cuts.proofs.Cut.back.Tie as tie
+use Rattle.cut.proofs.ValueLaws.{backOf-none, backOf-some}
+use Rattle.cut.proofs.ValueRight.{cut-answered, no-cut-answered, back-found}
+use Rattle.cut.proofs.Cut.back.Statement.{statement}
+use Rattle.cut.proofs.Cut.back.Tie as tie
 
 returns : tie.Need-returns
 returns c = backOf-none _ _ _ (λ h. omega (arith, back-found _ _ _ .0 h))

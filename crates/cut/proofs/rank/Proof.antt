@@ -5,14 +5,14 @@ use Prim.Native.Nat.{ℕ, _+_, _-_, _*_, _≤_, _<_}
 use native.Mathlib.Nat.{le-antisymm}
 use native.Mathlib.Omega.{arith}
 use borrow.Author.Needs.{needs}
 use Rattle.cuts.specs.Below.{sumTo, productTo}
 use Rattle.cuts.specs.Cut.{at}
 use Rattle.cuts.specs.Rank.{weight}
-use Rattle.cuts.specs.declared.Ranked.{Ranked}
-use Rattle.cuts.proofs.ValueLaws.{eight-counts, mul-under, weight-le, weight-more, rankTo, rankTo-more}
-use Rattle.cuts.proofs.ValueRight.{cut-answered, no-cut-answered, boxOf-full, boxOf-loop, rankOf-loop, rankOf-none}
-use Rattle.cuts.proofs.rank.Statement.{statement}
-use Rattle.cuts.proofs.rank.Tie as tie
+use Rattle.cut.specs.declared.Ranked.{Ranked}
+use Rattle.cut.proofs.ValueLaws.{eight-counts, mul-under, weight-le, weight-more, rankTo, rankTo-more}
+use Rattle.cut.proofs.ValueRight.{cut-answered, no-cut-answered, boxOf-full, boxOf-loop, rankOf-loop, rankOf-none}
+use Rattle.cut.proofs.rank.Statement.{statement}
+use Rattle.cut.proofs.rank.Tie as tie
 
 -- what is so after p turns; 4,294,901,760 is 65,535 times 65,536, the events that a term can be
 record Turned (n : ℕ) (events counts : List ℕ) (w r p : ℕ) : Type 0 where

@@ -1,10 +1,10 @@
 -- Each return without a step refutes one part of `forward-found`; where all of them hold, the count at the station's place is one higher.
 use native.Mathlib.Omega.{arith}
 use borrow.Author.Needs.{needs}
-use Rattle.cuts.proofs.ValueLaws.{forwardOf-none, forwardOf-some}
-use Rattle.cuts.proofs.ValueRight.{cut-answered, no-cut-answered, forward-found}
-use Rattle.cuts.proofs.Cut.forward.Statement.{statement}
-use Rattle.cuts.proofs.Cut.forward.Tie as tie
+use Rattle.cut.proofs.ValueLaws.{forwardOf-none, forwardOf-some}
+use Rattle.cut.proofs.ValueRight.{cut-answered, no-cut-answered, forward-found}
+use Rattle.cut.proofs.Cut.forward.Statement.{statement}
+use Rattle.cut.proofs.Cut.forward.Tie as tie
 
 returns : tie.Need-returns
 returns c = forwardOf-none _ _ _ (λ h. omega (arith, forward-found _ _ _ .0 h))

@@ -4,12 +4,13 @@ use Prim.Native.Nat.{_+_, _-_, _≤_, min}
 use native.Mathlib.Nat.{le-antisymm}
 use native.Mathlib.Omega.{arith}
 use borrow.Author.Needs.{needs}
 use Rattle.cuts.specs.Below.{productTo}
 use Rattle.cuts.specs.Rank.{weight}
-use Rattle.cuts.proofs.ValueLaws.{answered-true, answered-false, held-more, mul-under, weight-more, eight-counts}
-use Rattle.cuts.proofs.ValueRight.{isFull-is, boxOf-loop, boxOf-none}
-use Rattle.cuts.proofs.box_of.Statement.{statement}
-use Rattle.cuts.proofs.box_of.Tie as tie
+use Rattle.cut.proofs.ValueLaws.{held-more, mul-under, weight-more, eight-counts}
+use Rattle.cuts.proofs.ReplyLaws.{answered-true, answered-false}
+use Rattle.cut.proofs.ValueRight.{isFull-is, boxOf-loop, boxOf-none}
+use Rattle.cut.proofs.box_of.Statement.{statement}
+use Rattle.cut.proofs.box_of.Tie as tie
 
 abbrev Inv-loop : tie.InvT-loop
 Inv-loop n events b₀ p₀ b p = (p ≤ n) × (n ≤ 8) × (b ≡ min (weight events p) 65537)

@@ -3,11 +3,11 @@ use mathlib.Core.Path.{sym}
 use native.Mathlib.Omega.{arith}
 use borrow.Author.Needs.{needs}
 use borrow.Author.Tests.{le-leb}
-use Rattle.cuts.specs.Value.{isFull}
-use Rattle.cuts.proofs.ValueLaws.{refuted}
-use Rattle.cuts.proofs.ValueRight.{isFull-is}
-use Rattle.cuts.proofs.is_full.Statement.{statement}
-use Rattle.cuts.proofs.is_full.Tie as tie
+use Rattle.cut.specs.Value.{isFull}
+use Rattle.cuts.proofs.ReplyLaws.{refuted}
+use Rattle.cut.proofs.ValueRight.{isFull-is}
+use Rattle.cut.proofs.is_full.Statement.{statement}
+use Rattle.cut.proofs.is_full.Tie as tie
 
 returns : tie.Need-returns
 returns c = sym (refuted _ (λ h. omega (arith, isFull-is _ .0 h)))

@@ -1,9 +1,9 @@
 -- The count at place p where p is a station's, and 0 beyond n: the two cases of `mostAt`.
 use mathlib.Core.Path.{sym}
 use borrow.Author.Needs.{needs}
-use Rattle.cuts.proofs.ValueLaws.{mostAt-in, mostAt-beyond}
-use Rattle.cuts.proofs.most.Statement.{statement}
-use Rattle.cuts.proofs.most.Tie as tie
+use Rattle.cut.proofs.ValueLaws.{mostAt-in, mostAt-beyond}
+use Rattle.cut.proofs.most.Statement.{statement}
+use Rattle.cut.proofs.most.Tie as tie
 
 cast-if1 : tie.Need-cast-if1
 cast-if1 c = search needs
