@@ -53,7 +53,7 @@ impl Fields<'_> {
     }
 }
 
-// The bytes as a job, if n is 1 to 8 and they are as many as its counts need.
+// The bytes as a job, if n is 1 to 8 and they are as many as its counts need, or more.
 fn unpack(bytes: &[u8]) -> Option<Job> {
     let fields = &mut Fields(bytes, 0);
     let condition = Condition {
@@ -80,15 +80,17 @@ fn unpack(bytes: &[u8]) -> Option<Job> {
         stations.push(Station { start, records: records.collect() });
     }
     let padding = fields.next((8 - fields.1 % 8) % 8);
-    let job = Job { condition, n, stations, padding, behind: Vec::new(), most: usize::MAX };
-    (fields.1 == bytes.len() * 8).then_some(job)
+    let behind = bytes.get(fields.1 / 8..)?.to_vec();
+    Some(Job { condition, n, stations, padding, behind, most: usize::MAX })
 }
 
 // Each with its stamps as they are, and with those that follow from its messages.
 fn simpler(job: &Job) -> Vec<Job> {
     let mut found = Vec::new();
     for p in 0..job.stations.len() {
-        found.push(without_station(job, p));
+        let fewer = without_station(job, p);
+        found.extend((p..fewer.stations.len()).map(|q| without_station(&fewer, q)));
+        found.push(fewer);
         found.push(unasked(job, p));
         for e in 0..job.stations[p].records.len() {
             found.push(without_event(job, p, e));
