@@ -24,7 +24,8 @@ fn main() {
     }
 }
 
-// Reads one job and prints the reply to it; whether there was one, and all of the reply was printed. Of a length cut short no job follows: it has no byte.
+// Reads one job and prints the reply to it; whether there was one, and all of the reply was printed.
+// Behind a length that the end of the stream cuts short there is no byte, so its job is an empty one.
 fn answer_next() -> bool {
     let mut head = [0u8; 2];
     if io::read_full(0, &mut head) == 0 {
