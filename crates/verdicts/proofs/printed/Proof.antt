@@ -6,8 +6,8 @@ use lib.ListN.{length}
 use denote.Ref.{now}
 use borrow.Author.Needs.{needs}
 use Rattle.engine.specs.Answer.{textOf}
-use Rattle.verdicts.proofs.RoomLaws.{taken-whole}
-use Rattle.verdicts.proofs.TextFits.{text-fits}
+use Rattle.fits.proofs.RoomLaws.{taken-whole}
+use Rattle.fits.proofs.TextFits.{text-fits}
 use Rattle.verdicts.proofs.printed.Statement.{statement}
 use Rattle.verdicts.proofs.printed.Tie as tie
 
