@@ -14,7 +14,7 @@ use lib.Dec.{leb}
 use lib.ListN.{length, getD, take}
 use lib.Seq.{getD-take, ext-getD}
 use borrow.Author.Tests.{le-leb, lt-leb, leb-true}
-use Rattle.bits.specs.Bits.{bitAt, field, peeked, isField, takenOf}
+use Rattle.bits.specs.Bits.{bitAt, field, peeked, isField, takenOf, leftOf}
 use Rattle.bits.specs.declared.Taken.{Taken}
 
 pub bit-lt : (s : List ℕ) (i : ℕ) → bitAt s i < 2
@@ -154,6 +154,15 @@ takenOf-field s at k v n = go (isField s at k) refl
         → (v ≡ field s at k) × (n ≡ at + k) × (1 ≤ k) × (k ≤ 16) × (at + k ≤ min (8 * length s) 0xffff_ffff_ffff_ffff)
     go true t e = let f = isField-fits s at k t in (cc, cc, f .0, f .1, f .2)
     go false t e = let z : _≡_ {A = ℕ} 0 1 = cc in absurd (omega arith)
+
+-- what can be taken is what is left
+pub leftOf-fits : (s : List ℕ) (at k : ℕ) → 1 ≤ k → k ≤ leftOf s at → at + k ≤ min (8 * length s) 0xffff_ffff_ffff_ffff
+unfolding leftOf
+leftOf-fits s at k h₁ h₂ = omega arith
+
+pub fits-leftOf : (s : List ℕ) (at k : ℕ) → at + k ≤ min (8 * length s) 0xffff_ffff_ffff_ffff → k ≤ leftOf s at
+unfolding leftOf
+fits-leftOf s at k h = omega arith
 
 -- Nothing, exactly if k is not 1 to 16, the field does not end within s, or the next place is above the largest usize
 pub take-none : (s : List ℕ) (at k : ℕ)

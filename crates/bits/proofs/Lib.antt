@@ -1,2 +1,4 @@
 pub mod BitsLaws
 pub mod PutLaws
+pub mod ReaderLaws
+pub mod ReaderWalk

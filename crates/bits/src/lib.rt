@@ -1,9 +1,9 @@
-// Fields of 1 to 16 bits in a slice of bytes, most significant bit first: looked at, taken, put.
+// Fields of 1 to 16 bits in a slice of bytes, most significant bit first: a reader looks at them and takes them; they are put.
 // A place is a bit's number in the slice, from 0; a slice may have more bits than a usize can count.
 ghost use mathlib.Core.Path.{_≡_};
-ghost use Prim.Native.Nat.{_+_, _*_, _≤_, _<_, _^_};
+ghost use Prim.Native.Nat.{_+_, _*_, _≤_, _<_, _^_, min};
 ghost use lib.ListN.{length, getD, set};
-ghost use Rattle.bits.specs.Bits.{peeked, takenOf, withBit, putAt, Put};
+ghost use Rattle.bits.specs.Bits.{peeked, takenOf, placeAfter, Takes, leftOf, withBit, putAt, Put};
 
 // What a read finds: the field's value and the next place, or nothing.
 pub enum Taken {
@@ -11,40 +11,58 @@ pub enum Taken {
     Nothing,
 }
 
-// The k bits from bit `at` on, bits past the end being 0; 0 where k is above 16. Three bytes hold them.
+// The bit reader: the lent bytes, and how many of their bits are already taken.
+pub struct BitReader<'a> {
+    pub bytes: &'a [u8],
+    pub taken: usize,
+}
+
+impl<'a> BitReader<'a> {
+    // A reader of the bytes whose first `taken` bits are already taken.
+    pub fn new(bytes: &'a [u8], taken: usize) -> BitReader<'a>
+        ensures { λ r. ⌜ (r .bytes ≡ bytes .entry) × (r .taken ≡ taken) ⌝ }
+    {
+        BitReader { bytes, taken }
+    }
+
+    // The next k bits, which stay where they are: bits past the end are 0, and all is 0 where k is above 16.
+    pub fn look(self, k: usize) -> u16
+        ensures { λ r. ⌜ r ≡ peeked (now (self .entry .bytes)) (self .entry .taken) k ⌝ }
+    {
+        peek_at(self.bytes, self.taken, k)
+    }
+
+    // The next k bits, 1 to 16 of them, and the reader moves past them; past the end or at another width nothing, and the reader stays.
+    pub fn take(&mut self, k: usize) -> Taken
+        ensures { λ r. ⌜ Takes (now (self .entry)) k r (now (self .exit)) ⌝ }
+    {
+        let at = self.taken;
+        let t = take_at(self.bytes, at, k);
+        self.taken = next_place(at, t);
+        t
+    }
+
+    // How many bits are left; of more than a usize can count, those up to the largest place.
+    pub fn left(self) -> usize
+        ensures { λ r. ⌜ r ≡ leftOf (now (self .entry .bytes)) (self .entry .taken) ⌝ }
+    {
+        left_at(self.bytes, self.taken)
+    }
+}
+
+// The k bits from bit `at` on, bits past the end being 0; 0 where k is above 16. A reader there looks at them.
 pub fn peek(s: &[u8], at: usize, k: usize) -> u16
     ensures { λ r. ⌜ r ≡ peeked (now (s .entry)) at k ⌝ }
 {
-    if 16 < k {
-        return 0;
-    }
-    let q = at / 8;
-    let a = byte(s, q);
-    let b = byte(s, q + 1);
-    let c = byte(s, q + 2);
-    let p = pow2(k);
-    let w = a * 65536 + b * 256 + c;
-    let v = (w >> (24 - at % 8 - k)) % p;
-    v as u16
+    BitReader::new(s, at).look(k)
 }
 
-// A field of 1 to 16 bits that lies within s, and the next place.
+// A field of 1 to 16 bits that lies within s, and the next place. A reader there takes it.
 pub fn take(s: &[u8], at: usize, k: usize) -> Taken
     ensures { λ r. ⌜ r ≡ takenOf (now (s .entry)) at k ⌝ }
 {
-    if k < 1 {
-        return Taken::Nothing;
-    }
-    if 16 < k {
-        return Taken::Nothing;
-    }
-    if s.len() < bytes_to(at, k) {
-        return Taken::Nothing;
-    }
-    if usize::MAX - k < at {
-        return Taken::Nothing;
-    }
-    Taken::Field(peek(s, at, k), at + k)
+    let mut r = BitReader::new(s, at);
+    r.take(k)
 }
 
 // The k bits from bit `at` on become those of v, and true; false, and nothing is changed, where s has no such field or it cannot hold v.
@@ -66,6 +84,70 @@ pub fn put(s: &mut [u8], at: usize, k: usize, v: u16) -> bool
     }
     put_bits(s, at, k, w);
     true
+}
+
+// The k bits from bit `at` on, bits past the end being 0; 0 where k is above 16. Three bytes hold them.
+fn peek_at(s: &[u8], at: usize, k: usize) -> u16
+    ensures { λ r. ⌜ r ≡ peeked (now (s .entry)) at k ⌝ }
+{
+    if 16 < k {
+        return 0;
+    }
+    let q = at / 8;
+    let a = byte(s, q);
+    let b = byte(s, q + 1);
+    let c = byte(s, q + 2);
+    let p = pow2(k);
+    let w = a * 65536 + b * 256 + c;
+    let v = (w >> (24 - at % 8 - k)) % p;
+    v as u16
+}
+
+// A field of 1 to 16 bits that lies within s, and the next place.
+fn take_at(s: &[u8], at: usize, k: usize) -> Taken
+    ensures { λ r. ⌜ r ≡ takenOf (now (s .entry)) at k ⌝ }
+{
+    if k < 1 {
+        return Taken::Nothing;
+    }
+    if 16 < k {
+        return Taken::Nothing;
+    }
+    if left_at(s, at) < k {
+        return Taken::Nothing;
+    }
+    Taken::Field(peek_at(s, at, k), at + k)
+}
+
+// The place after a take: the next one, or the same where nothing was taken.
+fn next_place(at: usize, t: Taken) -> usize
+    ensures { λ r. ⌜ r ≡ placeAfter at t ⌝ }
+{
+    match t {
+        Taken::Field(_, next) => next,
+        Taken::Nothing => at,
+    }
+}
+
+// How many bits of s, from bit `at` on to the last place that a usize can name, are left.
+fn left_at(s: &[u8], at: usize) -> usize
+    ensures { λ r. ⌜ r ≡ leftOf (now (s .entry)) at ⌝ }
+{
+    let n = bits_of(s.len());
+    if n < at {
+        return 0;
+    }
+    n - at
+}
+
+// The bits of n bytes that a usize can count.
+fn bits_of(n: usize) -> usize
+    ensures { λ r. ⌜ r ≡ min (8 * n) 0xffff_ffff_ffff_ffff ⌝ }
+{
+    if usize::MAX / 8 < n {
+        return usize::MAX;
+    }
+    8 * n
 }
 
 // The k bits from bit `at` on become those of w, a bit a turn.
