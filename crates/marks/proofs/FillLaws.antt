@@ -8,7 +8,7 @@ use native.Mathlib.Nat.{zero-mod, zero-div}
 use native.Mathlib.Numerals.{add-one}
 use native.Mathlib.Omega.{arith}
 use lib.Dec.{leb, ltb, eqb}
-use lib.ListN.{length, take, set, replicate, length-set}
+use lib.ListN.{length, take, drop, set, replicate, length-set}
 use lib.Seq.{getD-set-same, getD-set-other, getD-take, set-getD, ext-getD, length-take-le}
 use borrow.Author.Tests.{leb-true, le-leb, eqb-true, eq-eqb}
 use Rattle.cuts.specs.Below.{every, any, sumTo, tab}
@@ -328,3 +328,22 @@ module _ (task : Task) (needs weights : List ℕ) (room : ℕ) (ready : Ready ta
           fits = omega (arith, at-row .within, ready .fits);
         };
   }
+
+  -- a row none of whose cuts is consistent, once it is blank
+  pub row-blank : (bases : List ℕ) (met : Bool) (w : ℕ) (marks marks′ : List ℕ) → bases ≡ task .bases → met ≡ othersMet (task .full .n) bases needs top → met ≡ false → w ≡ at top 0
+      → take first marks ≡ marksTo task needs weights first → marks′ ≡ (take first marks ++ replicate (w + 1) 0) ++ drop (first + (w + 1)) marks
+      → marks′ ≡ marksTo task needs weights (first + (at top 0 + 1)) ++ drop (first + (at top 0 + 1)) marks
+  row-blank bases met w marks marks′ e a f h front after =
+      let t : othersMet (task .full .n) (task .bases) needs top ≡ false = rw e at (sym a ∙ f) in
+      after ∙ rw (h, front, blank-is task needs weights (ready .full) (ready .eight) top first at-row t (at top 0 + 1) (omega (arith, at-row .last))) refl
+
+  -- .. and any other row, once it is marked cut by cut
+  pub row-marked : (bases strides : List ℕ) (met : Bool) (low sum : ℕ) (marks marks′ : List ℕ) → bases ≡ task .bases → strides ≡ stridesOf (task .full)
+      → met ≡ othersMet (task .full .n) bases needs top → met ≡ true → low ≡ othersNeed (task .full .n) bases needs top → sum ≡ othersAdd (task .full .n) bases weights top
+      → take first marks ≡ marksTo task needs weights first
+      → marks′ ≡ rowMarks (record { n = task .full .n; base = at bases 0; low = low; sum = sum; least = task .least; most = task .most }) needs weights strides top first (take first marks) (at top 0 + 1)
+      ++ drop (first + (at top 0 + 1)) marks
+      → marks′ ≡ marksTo task needs weights (first + (at top 0 + 1)) ++ drop (first + (at top 0 + 1)) marks
+  row-marked bases strides met low sum marks marks′ e g a f l s front after =
+      let t : othersMet (task .full .n) (task .bases) needs top ≡ true = rw e at (sym a ∙ f) in
+      after ∙ rw (l, s, e, g, front, rowMarks-is task needs weights (ready .full) (ready .eight) top first at-row t (at top 0 + 1) (omega (arith, at-row .last))) refl

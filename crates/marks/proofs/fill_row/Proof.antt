@@ -5,7 +5,7 @@ use native.Mathlib.Omega.{arith}
 use lib.ListN.{length}
 use borrow.Author.Tests.{not-true, not-false}
 use Rattle.cuts.specs.Cut.{at}
-use Rattle.marks.proofs.FillLaws.{needs-there, weights-there, row-ready, rowMarks-is, blank-is}
+use Rattle.marks.proofs.FillLaws.{needs-there, weights-there, row-ready, row-blank, row-marked}
 use borrow.Author.Needs.{needs}
 use Rattle.marks.proofs.fill_row.Statement.{statement}
 use Rattle.marks.proofs.fill_row.Tie as tie
@@ -50,11 +50,8 @@ returns c =
     let start = c .before .before .before .before .before .before .before .before .before .before .before .before .before .before .before .before .before in
     let others-met = c .before .before .before .before .before .before .before .others-met in
     let if1 = c .before .before .before .before .before .before .if1 in
-    let pre = start .pre in
-    let t = rw (pre .2) at (sym (others-met .ensures) ∙ not-true _ (if1 .taken)) in
-    let x = at (start .args .counts .now) 0 + 1 in (
-      rw (c .before .before .before .wide .ensures .0, pre .4, blank-is (start .args .task) _ _ (pre .0 .full) (pre .0 .eight) _ _ (pre .1) t x (omega (arith, pre .1 .last)))
-          at (c .before .before .blank-row .ensures),
+    let (ready, row, bases, _, front) = start .pre in (
+      row-blank _ _ _ _ ready _ _ row _ _ _ _ _ bases (others-met .ensures) (not-true _ (if1 .taken)) (c .before .before .before .wide .ensures .0) front (c .before .before .blank-row .ensures),
       refl,
     )
 
@@ -95,18 +92,8 @@ returns-2 c =
     let others-need = c .before .before .before .before .before .before .before .before .before .others-need in
     let others-add = c .before .before .before .before .before .before .before .others-add in
     let mark-row = c .before .before .before .before .mark-row in
-    let pre = start .pre in
-    let t = rw (pre .2) at (sym (others-met .ensures) ∙ not-false _ (if1 .left)) in
-    let x = at (start .args .counts .now) 0 + 1 in (
-      rw (
-        others-need .ensures,
-        others-add .ensures .0,
-        pre .2,
-        pre .3,
-        pre .4,
-        rowMarks-is (start .args .task) _ _ (pre .0 .full) (pre .0 .eight) _ _ (pre .1) t x (omega (arith, pre .1 .last)),
-      )
-          at (mark-row .ensures .0),
+    let (ready, row, bases, strides, front) = start .pre in (
+      row-marked _ _ _ _ ready _ _ row _ _ _ _ _ _ _ bases strides (others-met .ensures) (not-false _ (if1 .left)) (others-need .ensures) (others-add .ensures .0) front (mark-row .ensures .0),
       mark-row .ensures .1,
     )
 
