@@ -14,6 +14,7 @@ use lib.Dec.{leb}
 use lib.ListN.{length, getD, take}
 use lib.Seq.{getD-take, ext-getD}
 use borrow.Author.Tests.{le-leb, lt-leb, leb-true}
+use Rattle.cuts.proofs.ReplyLaws.{refuted, replies-equal}
 use Rattle.bits.specs.Bits.{bitAt, field, peeked, isField, takenOf, leftOf}
 use Rattle.bits.specs.declared.Taken.{Taken}
 
@@ -120,11 +121,6 @@ peeked-bytes s at k a b c p h ha hb hc hp =
     let w : a * 65536 + b * 256 + c ≡ field s (at / 8 * 8) 24 = rw (t, ha .0, hb .0, hc .0) refl in
     rw (peeked-field s at k h, hp, w) (rw (e₁, e₂) at (field-mid s (at / 8 * 8) (at % 8) k (24 - at % 8 - k)))
 
--- a test that cannot be true is false
-pub refuted : (b : Bool) → (b ≡ true → ⊥) → b ≡ false
-refuted true h = absurd (h refl)
-refuted false h = refl
-
 pub isField-fits : (s : List ℕ) (at k : ℕ) → isField s at k ≡ true
     → (1 ≤ k) × (k ≤ 16) × (at + k ≤ min (8 * length s) 0xffff_ffff_ffff_ffff)
 unfolding isField
@@ -185,10 +181,6 @@ take-none s at k = (
         let f : Taken.Field (field s at k) (at + k) ≡ takenOf s at k = takenOf-some s at k (omega arith) (omega arith) (omega arith) in
         let z : _≡_ {A = ℕ} 0 1 = cc in
         absurd (omega arith)
-
--- a contract that gives the reply by an equation permits one reply
-pub replies-equal : {A : Type 0} {a r r′ : A} → r ≡ a → r′ ≡ a → r ≡ r′
-replies-equal e f = e ∙ sym f
 
 pub peek-unique : (s : List ℕ) (at k r r′ : ℕ) → r ≡ peeked s at k → r′ ≡ peeked s at k → r ≡ r′
 peek-unique s at k r r′ = replies-equal

@@ -17,7 +17,8 @@ use lib.ListN.{length, getD, set, drop, length-set}
 use lib.Seq.{getD-set-same, getD-set-other, set-out, drop-set-lt}
 use borrow.Author.Tests.{le-leb, lt-ltb, leb-true, ltb-true}
 use Rattle.bits.specs.Bits.{bitAt, field, withBit, setBit, putAt, isPut, putOf, Put}
-use Rattle.bits.proofs.BitsLaws.{field-ext, refuted, replies-equal}
+use Rattle.bits.proofs.BitsLaws.{field-ext}
+use Rattle.cuts.proofs.ReplyLaws.{refuted, replies-equal}
 
 pub withBit-same : (x i b : ℕ) → b < 2 → withBit x i b / 2 ^ i % 2 ≡ b
 unfolding withBit

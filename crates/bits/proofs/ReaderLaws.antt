@@ -7,7 +7,8 @@ use denote.Ref.{RefT, now}
 use Rattle.bits.specs.Bits.{field, peeked, takenOf, placeAfter, moved, Takes, leftOf}
 use Rattle.bits.specs.declared.BitReader.{BitReader}
 use Rattle.bits.specs.declared.Taken.{Taken}
-use Rattle.bits.proofs.BitsLaws.{takenOf-field, takenOf-some, leftOf-fits, fits-leftOf, replies-equal}
+use Rattle.bits.proofs.BitsLaws.{takenOf-field, takenOf-some, leftOf-fits, fits-leftOf}
+use Rattle.cuts.proofs.ReplyLaws.{replies-equal}
 
 -- "takes none and says so": the reader is then unchanged
 pub takes-nothing : (r : BitReader) (k : ℕ) (after : BitReader) → Takes r k Taken.Nothing after → after ≡ r

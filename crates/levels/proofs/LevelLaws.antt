@@ -11,6 +11,7 @@ use lib.Dec.{leb, ltb}
 use lib.IntN.{ℤ, pos, negsuc, subℕ, _+ℤ_}
 use lib.Signed.{leZ, mag}
 use borrow.Author.Tests.{lt-ltb, le-ltb, le-leb, lt-leb, leb-true}
+use Rattle.cuts.proofs.ReplyLaws.{replies-equal}
 use Rattle.levels.specs.Level.{twos, bitsOf, isLevel, fieldOf, levelOf, excessOf}
 use Rattle.levels.specs.declared.Fitted.{Fitted}
 
@@ -167,10 +168,6 @@ levelOf-excess f h = go (decLt f 2048)
 pub levelOf-injective : (x y : ℕ) → levelOf x ≡ levelOf y → x ≡ y
 unfolding levelOf
 levelOf-injective x y e = sub-injective x y 2048 e
-
--- a contract that gives the reply by an equation permits one reply
-replies-equal : {A : Type 0} {a r r′ : A} → r ≡ a → r′ ≡ a → r ≡ r′
-replies-equal e f = e ∙ sym f
 
 pub excess-unique : (f : ℕ) (r r′ : ℕ) → r ≡ excessOf f → r′ ≡ excessOf f → r ≡ r′
 excess-unique f r r′ = replies-equal

@@ -16,7 +16,7 @@ use mir.Val.{toZ, ofZ, SFits}
 use mir.Facts.{toZ-ofZ}
 use borrow.Author.Tests.{leb-true, lt-ltb, le-ltb, le-leb}
 use Rattle.bits.specs.Bits.{field, peeked}
-use Rattle.bits.proofs.BitsLaws.{refuted, replies-equal}
+use Rattle.cuts.proofs.ReplyLaws.{refuted, replies-equal}
 use Rattle.levels.specs.Level.{twos}
 use Rattle.levels.proofs.LevelLaws.{twos-mag}
 use Rattle.cuts.specs.Below.{sumTo, tab}

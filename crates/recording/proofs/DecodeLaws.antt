@@ -12,7 +12,7 @@ use lib.ListN.{length, take, drop}
 use lib.Seq.{ext-getD, getD-take, length-take-le}
 use borrow.Author.Tests.{lt-ltb, le-ltb, le-leb, leb-true}
 use Rattle.bits.specs.Bits.{field}
-use Rattle.bits.proofs.BitsLaws.{refuted}
+use Rattle.cuts.proofs.ReplyLaws.{refuted}
 use Rattle.levels.specs.Level.{excessOf}
 use Rattle.cuts.specs.Below.{sumTo, tab}
 use Rattle.cuts.specs.Cut.{at}

@@ -8,7 +8,8 @@ use native.Mathlib.Decide.{decLt}
 use native.Mathlib.Omega.{arith}
 use lib.ListN.{length, getD, take, drop, length-take, List·getD-append, List·getD-eq-default}
 use lib.Seq.{getD-take, ext-getD}
-use Rattle.bits.proofs.BitsLaws.{field-lt, replies-equal}
+use Rattle.bits.proofs.BitsLaws.{field-lt}
+use Rattle.cuts.proofs.ReplyLaws.{replies-equal}
 use Rattle.levels.specs.Level.{levelOf}
 use Rattle.levels.proofs.LevelLaws.{levelOf-excess}
 use Rattle.cuts.specs.Below.{tab}

@@ -7,7 +7,8 @@ use Prim.Native.Nat.{ℕ, zero, suc, _+_, _*_, _≤_, _<_}
 use native.Mathlib.Nat.{mul-le-mul}
 use native.Mathlib.Omega.{arith}
 use lib.ListN.{length}
-use Rattle.bits.proofs.BitsLaws.{field-lt, replies-equal}
+use Rattle.bits.proofs.BitsLaws.{field-lt}
+use Rattle.cuts.proofs.ReplyLaws.{replies-equal}
 use Rattle.cuts.specs.Below.{sumTo}
 use Rattle.cuts.specs.Cut.{at}
 use Rattle.cuts.specs.Trace.{Messages, Stamps, Recorded, Formed, Stamped}

@@ -10,7 +10,7 @@ use lib.IntN.{pos}
 use lib.ListN.{length, getD, List·getD-eq-default}
 use lib.Dec.{leb}
 use borrow.Author.Tests.{le-leb, leb-true}
-use Rattle.bits.proofs.BitsLaws.{refuted}
+use Rattle.cuts.proofs.ReplyLaws.{refuted}
 use Rattle.levels.specs.Level.{isLevel}
 use Rattle.cuts.specs.Below.{every, sumTo, tab}
 use Rattle.cuts.specs.Cut.{at}

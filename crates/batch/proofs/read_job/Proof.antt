@@ -1,6 +1,5 @@
 -- What is counted at the front of the lent part is counted at the front of the room.
 use mathlib.Core.Path.{sym}
-use native.Mathlib.Omega.{arith}
 use lib.Seq.{length-take-le}
 use borrow.Author.Needs.{needs}
 use Rattle.batch.proofs.StreamLaws.{counts-append}

@@ -1,10 +1,9 @@
 -- Where the last cut of the row does not meet the others' rows no cut is consistent; else each cut's mark is the lattice's.
-use mathlib.Core.Path.{refl, sym, ap, _∙_}
+use mathlib.Core.Path.{refl, ap}
 use Prim.Native.Nat.{_+_, _≤_}
 use native.Mathlib.Omega.{arith}
 use lib.ListN.{length}
 use borrow.Author.Tests.{not-true, not-false}
-use Rattle.cuts.specs.Cut.{at}
 use Rattle.marks.proofs.FillLaws.{needs-there, weights-there, row-ready, row-blank, row-marked}
 use borrow.Author.Needs.{needs}
 use Rattle.marks.proofs.fill_row.Statement.{statement}
