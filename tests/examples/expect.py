@@ -1,7 +1,7 @@
 #!/usr/bin/env python3
-"""What program `examples` should print, and the files of program `verdicts`, worked out from document 01 alone.
+"""The jobs of program `examples` and what it should print, and the files of program `verdicts`, worked out from document 01 alone.
 
-  tests/examples/expect.py              compares crates/examples/stdout, crates/verdicts/stdin and stdout with what it works out
+  tests/examples/expect.py              compares crates/examples/stdin and stdout, crates/verdicts/stdin and stdout with what it works out
   tests/examples/expect.py write        writes them
   tests/examples/expect.py reply < job  prints the reply to a job
 """
@@ -259,12 +259,19 @@ def examples():
     yield "13: eight stations at -2048, sum -16383 to 16376", condition(2, low=-16383, high=16376, asked=range(1, 9)) + lowest
 
 
+def part(data):
+    """The bytes behind their length in two bytes, high first."""
+    return len(data).to_bytes(2, "big") + data
+
+
 def files():
     """The stored files, by their names."""
     table = list(examples())
     whole = table[0][1]
+    jobs = b"".join(part(f"{name}\n".encode()) + part(job) for name, job in table)
     printed = "".join(f"{name}\n{reply(job)}" for name, job in table)
     return {
+        "examples/stdin": jobs,
         "examples/stdout": printed.encode(),
         "verdicts/stdin": whole,
         "verdicts/stdout": reply(whole).encode(),
