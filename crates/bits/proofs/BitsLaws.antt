@@ -184,6 +184,3 @@ take-none s at k = (
 
 pub peek-unique : (s : List ℕ) (at k r r′ : ℕ) → r ≡ peeked s at k → r′ ≡ peeked s at k → r ≡ r′
 peek-unique s at k r r′ = replies-equal
-
-pub take-unique : (s : List ℕ) (at k : ℕ) (r r′ : Taken) → r ≡ takenOf s at k → r′ ≡ takenOf s at k → r ≡ r′
-take-unique s at k r r′ = replies-equal

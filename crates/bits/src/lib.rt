@@ -57,14 +57,6 @@ pub fn peek(s: &[u8], at: usize, k: usize) -> u16
     BitReader::new(s, at).look(k)
 }
 
-// A field of 1 to 16 bits that lies within s, and the next place. A reader there takes it.
-pub fn take(s: &[u8], at: usize, k: usize) -> Taken
-    ensures { λ r. ⌜ r ≡ takenOf (now (s .entry)) at k ⌝ }
-{
-    let mut r = BitReader::new(s, at);
-    r.take(k)
-}
-
 // The k bits from bit `at` on become those of v, and true; false, and nothing is changed, where s has no such field or it cannot hold v.
 pub fn put(s: &mut [u8], at: usize, k: usize, v: u16) -> bool
     ensures { λ r. ⌜ Put (now (s .entry)) at k v r (now (s .exit)) ⌝ }
