@@ -142,21 +142,21 @@ fn sums() {
 // The condition Sum from low to high, both as 16 bits in two's complement.
 fn sum(low: u16, high: u16, asked: u16) -> [u8; 38] {
     let mut c = [0u8; CONDITION];
-    bits::put(&mut c, 0, 2, 2);
-    bits::put(&mut c, 8, 16, low);
-    bits::put(&mut c, 24, 16, high);
-    bits::put(&mut c, 40, 8, asked);
+    put::put(&mut c, 0, 2, 2);
+    put::put(&mut c, 8, 16, low);
+    put::put(&mut c, 24, 16, high);
+    put::put(&mut c, 40, 8, asked);
     c
 }
 
 // Station 1 at x together with station 2 at y.
 fn together(x: u16, y: u16) -> [u8; 38] {
     let mut c = [0u8; CONDITION];
-    bits::put(&mut c, 40, 8, BOTH);
-    bits::put(&mut c, 48, 16, x);
-    bits::put(&mut c, 64, 16, x);
-    bits::put(&mut c, 80, 16, y);
-    bits::put(&mut c, 96, 16, y);
+    put::put(&mut c, 40, 8, BOTH);
+    put::put(&mut c, 48, 16, x);
+    put::put(&mut c, 64, 16, x);
+    put::put(&mut c, 80, 16, y);
+    put::put(&mut c, 96, 16, y);
     c
 }
 
@@ -293,6 +293,6 @@ fn wide(x: u8) -> u16 {
 
 // The field v of k bits, from bit `at` on; the next bit.
 fn put(room: &mut [u8], at: usize, k: usize, v: u16) -> usize {
-    bits::put(room, at, k, v);
+    put::put(room, at, k, v);
     std::num::wrapping_add_usize(at, k)
 }
