@@ -1,22 +1,26 @@
--- Laws of fields of bits, at any width. In order: a bit and a field; fields that join and fields of the same bits; whole bytes;
--- what is looked at; what is taken; two replies. Putting a field is in PutLaws. Assumes nothing.
+-- Laws of fields of bits, at any width. In order: a power of 2; a bit and a field; fields that join and fields of the same bits; whole
+-- bytes; what is looked at; what is taken; two replies. Putting a field is in the crate `put`. Assumes nothing.
 use mathlib.Core.Path.{_≡_, refl, sym, _∙_}
 use mathlib.Core.Bool.{Bool, true, false, _&&_, cond, and-eq-true-iff}
 use mathlib.Core.Logic.{_↔_, _⊎_, inl, inr, ⊎-elim}
 use mathlib.Core.List.{List}
 use Prim.Native.Nat.{ℕ, zero, suc, _+_, _-_, _*_, _/_, _%_, _^_, _≤_, _<_, min}
-use native.Mathlib.Nat.{zero-add, add-zero, add-suc, add-assoc, mul-assoc, mul-one, pow-suc, pow-zero, div-eq-of-lt, div-one, eq-or-lt-of-le, le-of-suc-le-suc}
+use native.Mathlib.Nat.{zero-add, add-zero, add-suc, add-assoc, mul-assoc, mul-one, pow-suc, pow-zero, div-eq-of-lt, div-one, eq-or-lt-of-le, le-of-suc-le-suc, one-mul, mod-lt, mod-eq-of-lt, lt-of-le-of-lt, lt-of-lt-of-le}
 use native.Mathlib.Decide.{decLt}
 use native.Mathlib.Numerals.{add-one}
 use native.Mathlib.Omega.{arith}
-use lib.Pow.{shr-shr, high, low}
-use lib.Dec.{leb}
+use lib.Pow.{shr-shr, high, low, pow-pos, pow-mono}
+use lib.Dec.{leb, lit<}
 use lib.ListN.{length, getD, take}
 use lib.Seq.{getD-take, ext-getD}
 use borrow.Author.Tests.{le-leb, lt-leb, leb-true}
 use Rattle.cuts.proofs.ReplyLaws.{refuted, replies-equal}
 use Rattle.bits.specs.Bits.{bitAt, field, peeked, isField, takenOf, leftOf}
 use Rattle.bits.specs.declared.Taken.{Taken}
+
+-- 1 shifted by at most 16 is 2 ^ k: no bit is lost
+pub one-shifted : (k : ℕ) → k ≤ 16 → 1 * 2 ^ k % 2 ^ 64 ≡ 2 ^ k
+one-shifted k h = rw one-mul (mod-eq-of-lt (lt-of-le-of-lt (pow-mono h) (lit< tt)))
 
 pub bit-lt : (s : List ℕ) (i : ℕ) → bitAt s i < 2
 unfolding bitAt
@@ -88,13 +92,13 @@ bytes-ext s t hs ht l e =
     ∙ field-byte t q (ht q)
 
 -- three bytes as one number
-field-three : (s : List ℕ) (q : ℕ) → getD s q 0 < 256 → getD s (q + 1) 0 < 256 → getD s (q + 2) 0 < 256
-    → field s (q * 8) 24 ≡ getD s q 0 * 65536 + getD s (q + 1) 0 * 256 + getD s (q + 2) 0
-field-three s q h₀ h₁ h₂ =
+pub field-three : (s : List ℕ) (q a b c : ℕ) → (a ≡ getD s q 0) × (a < 256) → (b ≡ getD s (q + 1) 0) × (b < 256)
+    → (c ≡ getD s (q + 2) 0) × (c < 256) → a * 65536 + b * 256 + c ≡ field s (q * 8) 24
+field-three s q a b c ha hb hc =
     let e₁ : q * 8 + 8 ≡ (q + 1) * 8 = omega arith in
     let e₂ : (q + 1) * 8 + 8 ≡ (q + 2) * 8 = omega arith in
-    rw (field-add s (q * 8) 8 16, e₁, field-add s ((q + 1) * 8) 8 8, e₂)
-    (rw (field-byte s q h₀, field-byte s (q + 1) h₁, field-byte s (q + 2) h₂) (omega arith))
+    let f : (i d : ℕ) → (d ≡ getD s i 0) × (d < 256) → field s (i * 8) 8 ≡ d = λ i d h. field-byte s i (rw (h .0) at (h .1)) ∙ sym (h .0) in
+    rw (field-add s (q * 8) 8 16, e₁, field-add s ((q + 1) * 8) 8 8, e₂) (rw (f q a ha, f (q + 1) b hb, f (q + 2) c hc) (omega arith))
 
 -- k bits after the first r of a field of r + k + t
 pub field-mid : (s : List ℕ) (at r k t : ℕ) → field s at (r + k + t) / 2 ^ t % 2 ^ k ≡ field s (at + r) k
@@ -111,15 +115,16 @@ unfolding peeked
 peeked-wide s at k h = simp (lt-leb _ _ h)
 
 -- what is looked at, from the three bytes that hold it
-pub peeked-bytes : (s : List ℕ) (at k a b c p : ℕ) → k ≤ 16
-    → (a ≡ getD s (at / 8) 0) × (a < 256) → (b ≡ getD s (at / 8 + 1) 0) × (b < 256) → (c ≡ getD s (at / 8 + 2) 0) × (c < 256)
-    → p ≡ 2 ^ k → (a * 65536 + b * 256 + c) / 2 ^ (24 - at % 8 - k) % p ≡ peeked s at k
-peeked-bytes s at k a b c p h ha hb hc hp =
+pub peeked-three : (s : List ℕ) (at k w : ℕ) → k ≤ 16 → w ≡ field s (at / 8 * 8) 24
+    → w / 2 ^ (24 - at % 8 - k) % (1 * 2 ^ k % 2 ^ 64) ≡ peeked s at k
+peeked-three s at k w h e =
     let e₁ : at % 8 + k + (24 - at % 8 - k) ≡ 24 = omega arith in
     let e₂ : at / 8 * 8 + at % 8 ≡ at = omega arith in
-    let t = field-three s (at / 8) (rw (ha .0) at (ha .1)) (rw (hb .0) at (hb .1)) (rw (hc .0) at (hc .1)) in
-    let w : a * 65536 + b * 256 + c ≡ field s (at / 8 * 8) 24 = rw (t, ha .0, hb .0, hc .0) refl in
-    rw (peeked-field s at k h, hp, w) (rw (e₁, e₂) at (field-mid s (at / 8 * 8) (at % 8) k (24 - at % 8 - k)))
+    rw (peeked-field s at k h, one-shifted k h, e) (rw (e₁, e₂) at (field-mid s (at / 8 * 8) (at % 8) k (24 - at % 8 - k)))
+
+-- and it is 16 bits
+pub remainder-16 : (w k : ℕ) → k ≤ 16 → w % (1 * 2 ^ k % 2 ^ 64) < 65536
+remainder-16 w k h = rw (one-shifted k h) (lt-of-lt-of-le (mod-lt w (pow-pos k)) (pow-mono h))
 
 pub isField-fits : (s : List ℕ) (at k : ℕ) → isField s at k ≡ true
     → (1 ≤ k) × (k ≤ 16) × (at + k ≤ min (8 * length s) 0xffff_ffff_ffff_ffff)
@@ -184,6 +189,3 @@ take-none s at k = (
 
 pub peek-unique : (s : List ℕ) (at k r r′ : ℕ) → r ≡ peeked s at k → r′ ≡ peeked s at k → r ≡ r′
 peek-unique s at k r r′ = replies-equal
-
-pub take-unique : (s : List ℕ) (at k : ℕ) (r r′ : Taken) → r ≡ takenOf s at k → r′ ≡ takenOf s at k → r ≡ r′
-take-unique s at k r r′ = replies-equal

@@ -1,4 +1,3 @@
 pub mod BitsLaws
-pub mod PutLaws
 pub mod ReaderLaws
 pub mod ReaderWalk

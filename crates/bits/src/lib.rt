@@ -1,9 +1,9 @@
-// Fields of 1 to 16 bits in a slice of bytes, most significant bit first: a reader looks at them and takes them; they are put.
+// Fields of 1 to 16 bits in a slice of bytes, most significant bit first: a reader looks at them and takes them.
 // A place is a bit's number in the slice, from 0; a slice may have more bits than a usize can count.
 ghost use mathlib.Core.Path.{_≡_};
-ghost use Prim.Native.Nat.{_+_, _*_, _≤_, _<_, _^_, min};
-ghost use lib.ListN.{length, getD, set};
-ghost use Rattle.bits.specs.Bits.{peeked, takenOf, placeAfter, Takes, leftOf, withBit, putAt, Put};
+ghost use Prim.Native.Nat.{_*_, _≤_, _<_, min};
+ghost use lib.ListN.{getD};
+ghost use Rattle.bits.specs.Bits.{field, peeked, takenOf, placeAfter, Takes, leftOf};
 
 // What a read finds: the field's value and the next place, or nothing.
 pub enum Taken {
@@ -57,35 +57,6 @@ pub fn peek(s: &[u8], at: usize, k: usize) -> u16
     BitReader::new(s, at).look(k)
 }
 
-// A field of 1 to 16 bits that lies within s, and the next place. A reader there takes it.
-pub fn take(s: &[u8], at: usize, k: usize) -> Taken
-    ensures { λ r. ⌜ r ≡ takenOf (now (s .entry)) at k ⌝ }
-{
-    let mut r = BitReader::new(s, at);
-    r.take(k)
-}
-
-// The k bits from bit `at` on become those of v, and true; false, and nothing is changed, where s has no such field or it cannot hold v.
-pub fn put(s: &mut [u8], at: usize, k: usize, v: u16) -> bool
-    ensures { λ r. ⌜ Put (now (s .entry)) at k v r (now (s .exit)) ⌝ }
-{
-    if k < 1 {
-        return false;
-    }
-    if 16 < k {
-        return false;
-    }
-    if s.len() < bytes_to(at, k) {
-        return false;
-    }
-    let w = v as usize;
-    if pow2(k) <= w {
-        return false;
-    }
-    put_bits(s, at, k, w);
-    true
-}
-
 // The k bits from bit `at` on, bits past the end being 0; 0 where k is above 16. Three bytes hold them.
 fn peek_at(s: &[u8], at: usize, k: usize) -> u16
     ensures { λ r. ⌜ r ≡ peeked (now (s .entry)) at k ⌝ }
@@ -93,13 +64,8 @@ fn peek_at(s: &[u8], at: usize, k: usize) -> u16
     if 16 < k {
         return 0;
     }
-    let q = at / 8;
-    let a = byte(s, q);
-    let b = byte(s, q + 1);
-    let c = byte(s, q + 2);
-    let p = pow2(k);
-    let w = a * 65536 + b * 256 + c;
-    let v = (w >> (24 - at % 8 - k)) % p;
+    let w = three_bytes(s, at / 8);
+    let v = (w >> (24 - at % 8 - k)) % (1 << k);
     v as u16
 }
 
@@ -150,36 +116,15 @@ fn bits_of(n: usize) -> usize
     8 * n
 }
 
-// The k bits from bit `at` on become those of w, a bit a turn.
-fn put_bits(s: &mut [u8], at: usize, k: usize, w: usize)
-    requires { ⌜ (k ≤ 16) × (at + k ≤ 8 * length (now s)) ⌝ }
-    ensures { λ _. ⌜ now (s .exit) ≡ putAt (now (s .entry)) at k w ⌝ }
+// The bits of three bytes from the byte at q on, as a number; bytes past the end are 0.
+fn three_bytes(s: &[u8], q: usize) -> usize
+    requires { ⌜ q ≤ 0x1fff_ffff_ffff_ffff ⌝ }
+    ensures { λ r. ⌜ r ≡ field (now (s .entry)) (q * 8) 24 ⌝ }
 {
-    let mut i = 0;
-    while i < k {
-        let p = at % 8 + i;
-        put_bit(s, at / 8 + p / 8, 7 - p % 8, (w >> (k - 1 - i)) % 2);
-        i += 1;
-    }
-}
-
-// Bit m of the byte at q, counted from the least significant, becomes b.
-fn put_bit(s: &mut [u8], q: usize, m: usize, b: usize)
-    requires { ⌜ (q < length (now s)) × (m < 8) × (b < 2) ⌝ }
-    ensures { λ _. ⌜ now (s .exit) ≡ set (now (s .entry)) q (withBit (getD (now (s .entry)) q 0) m b) ⌝ }
-{
-    s[q] = with_bit(s[q], m, b);
-}
-
-// x with bit m, counted from the least significant, made b.
-fn with_bit(x: u8, m: usize, b: usize) -> u8
-    requires { ⌜ (m < 8) × (b < 2) ⌝ }
-    ensures { λ r. ⌜ r ≡ withBit x m b ⌝ }
-{
-    let w = x as usize;
-    let p = pow2(m);
-    let y = (w / (p * 2) * 2 + b) * p + w % p;
-    y as u8
+    let a = byte(s, q);
+    let b = byte(s, q + 1);
+    let c = byte(s, q + 2);
+    a * 65536 + b * 256 + c
 }
 
 // The byte at i, or 0 past the end.
@@ -190,20 +135,4 @@ fn byte(s: &[u8], i: usize) -> usize
         return s[i] as usize;
     }
     0
-}
-
-// How many bytes hold the bits before bit at + k.
-fn bytes_to(at: usize, k: usize) -> usize
-    requires { ⌜ k ≤ 16 ⌝ }
-    ensures { λ r. ⌜ (at + k ≤ 8 * r) × (8 * r < at + k + 8) ⌝ }
-{
-    at / 8 + (at % 8 + k + 7) / 8
-}
-
-// 2 to the power k.
-fn pow2(k: usize) -> usize
-    requires { ⌜ k ≤ 16 ⌝ }
-    ensures { λ r. ⌜ (r ≡ 2 ^ k) × (0 < r) × (r ≤ 65536) ⌝ }
-{
-    1 << k
 }

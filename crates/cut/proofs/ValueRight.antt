@@ -88,21 +88,48 @@ cut-answered e h = isCut-is _ _ .0 (answered-true e h)
 pub no-cut-answered : {r : Bool} {m c : Cut} → r ≡ isCut m c → not r ≡ true → CutOf m c → ⊥
 no-cut-answered e h d = answered-false e h (isCut-is _ _ .1 d)
 
+-- a cut of the recording and a station of it
+pub station-is : (m c : Cut) (s : ℕ) → ((isCut m c && isStation m s) ≡ true) ↔ (CutOf m c × (1 ≤ s) × (s ≤ m .n))
+unfolding isStation
+station-is m c s = (reads, tests)
+  where
+    reads : (isCut m c && (leb 1 s && leb s (m .n))) ≡ true → CutOf m c × (1 ≤ s) × (s ≤ m .n)
+    reads h =
+        let (d, r) = and-true (isCut m c) (leb 1 s && leb s (m .n)) h in
+        let (l, k) = and-true (leb 1 s) (leb s (m .n)) r in
+        (isCut-is m c .0 d, leb-true _ _ l, leb-true _ _ k)
+
+    tests : CutOf m c × (1 ≤ s) × (s ≤ m .n) → (isCut m c && (leb 1 s && leb s (m .n))) ≡ true
+    tests (d, l, k) = simp (isCut-is m c .1 d, le-leb _ _ l, le-leb _ _ k)
+
+-- where a test answered so, the station's place is one of the eight
+pub station-place : (m c : Cut) (s : ℕ) {r : Bool} → r ≡ (isCut m c && isStation m s) → not r ≡ false → (1 ≤ s) × (s - 1 < 8)
+station-place m c s e h =
+    let (d, l, k) = station-is m c s .0 (answered-true e h) in
+    (l, omega (arith, d .full .most-eight))
+
+-- where the station is one, the cut decides
+pub station-cut : (m c : Cut) (s : ℕ) (r : Bool) → 1 ≤ s → s ≤ m .n → r ≡ isCut m c → r ≡ (isCut m c && isStation m s)
+unfolding isStation
+station-cut m c s r l k e = e ∙ simp (le-leb _ _ l, le-leb _ _ k) (same (isCut m c))
+  where
+    same : (b : Bool) → b ≡ (b && true)
+    same true = refl
+    same false = refl
+
 -- where a step is found: a and b are what the test of the named count compares
 step-found : (m c new : Cut) (s a b : ℕ)
     → (moved (isCut m c && isStation m s && ltb a b) new c .found ≡ true) ↔ (CutOf m c × (1 ≤ s) × (s ≤ m .n) × (a < b))
-unfolding isStation
 step-found m c new s a b = (reads, tests)
   where
-    reads : moved (isCut m c && (leb 1 s && leb s (m .n)) && ltb a b) new c .found ≡ true → CutOf m c × (1 ≤ s) × (s ≤ m .n) × (a < b)
+    reads : moved (isCut m c && isStation m s && ltb a b) new c .found ≡ true → CutOf m c × (1 ≤ s) × (s ≤ m .n) × (a < b)
     reads h =
-        let (i, t) = and-true (isCut m c && (leb 1 s && leb s (m .n))) (ltb a b) (sym (found-moved _ new c) ∙ h) in
-        let (d, r) = and-true (isCut m c) (leb 1 s && leb s (m .n)) i in
-        let (l, k) = and-true (leb 1 s) (leb s (m .n)) r in
-        (isCut-is m c .0 d, leb-true _ _ l, leb-true _ _ k, ltb-true _ _ t)
+        let (i, t) = and-true (isCut m c && isStation m s) (ltb a b) (sym (found-moved _ new c) ∙ h) in
+        let (d, l, k) = station-is m c s .0 i in
+        (d, l, k, ltb-true _ _ t)
 
-    tests : CutOf m c × (1 ≤ s) × (s ≤ m .n) × (a < b) → moved (isCut m c && (leb 1 s && leb s (m .n)) && ltb a b) new c .found ≡ true
-    tests (d, l, k, t) = found-moved _ new c ∙ simp (isCut-is m c .1 d, le-leb _ _ l, le-leb _ _ k, lt-ltb _ _ t)
+    tests : CutOf m c × (1 ≤ s) × (s ≤ m .n) × (a < b) → moved (isCut m c && isStation m s && ltb a b) new c .found ≡ true
+    tests (d, l, k, t) = found-moved _ new c ∙ simp (station-is m c s .1 (d, l, k), lt-ltb _ _ t)
 
 -- "There is none exactly if the station is not 1 to n, the cut is not one of the recording .., or the named count would leave 0 to m"
 pub forward-found : (m c : Cut) (s : ℕ)

@@ -13,8 +13,9 @@ use lib.Pow.{pow-pos}
 use lib.IntN.{ℤ, pos}
 use lib.ListN.{length, getD, take, drop, length-take, List·getD-eq-default}
 use lib.Seq.{getD-take}
-use Rattle.bits.specs.Bits.{field, isPut, putAt, putOf}
-use Rattle.bits.proofs.PutLaws.{put-length, put-same, put-beside, put-bytes, put-drop, isPut-fits, putOf-fits}
+use Rattle.bits.specs.Bits.{field}
+use Rattle.put.specs.Put.{isPut, putAt, putOf}
+use Rattle.put.proofs.PutLaws.{put-length, put-same, put-beside, put-bytes, put-drop, isPut-fits, putOf-fits}
 use Rattle.levels.specs.Level.{twos, bitsOf, isLevel}
 use Rattle.levels.proofs.LevelLaws.{level-field, level-bits}
 use Rattle.cuts.specs.Cut.{at}

@@ -5,7 +5,7 @@ use mathlib.Core.List.{List}
 use Prim.Native.Nat.{ℕ, zero, suc, _+_, _-_, _*_}
 use lib.IntN.{ℤ, pos}
 use lib.ListN.{getD}
-use Rattle.bits.specs.Bits.{putOf}
+use Rattle.put.specs.Put.{putOf}
 use Rattle.levels.specs.Level.{isLevel, bitsOf}
 use Rattle.cuts.specs.Cut.{at}
 use Rattle.recording.specs.Form.{bytesFor, stationBit, recordBit}

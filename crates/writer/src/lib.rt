@@ -350,7 +350,7 @@ fn pack(
 {
     let firsts = firsts_of(counts);
     let total = firsts[n];
-    bits::put(room, lead - 4, 4, n as u16);
+    put::put(room, lead - 4, 4, n as u16);
     put_stations(room, lead, w, n, counts, starts);
     put_records(room, lead, w, n, total, origins, numbers, levels, stamps);
     put_padding(room, record_bit(lead, w, n, total));
@@ -376,8 +376,8 @@ fn put_station(room: &mut [u8], w: usize, i: usize, m: u16, start: i16)
     requires { ⌜ (w ≤ 9) × (i ≤ 400000) ⌝ }
     ensures { λ _. ⌜ now (room .exit) ≡ putStation w i m start (now (room .entry)) ⌝ }
 {
-    bits::put(room, i, w, m);
-    bits::put(room, i + w, 12, level_bits(start));
+    put::put(room, i, w, m);
+    put::put(room, i + w, 12, level_bits(start));
 }
 
 // The records, in file order.
@@ -421,9 +421,9 @@ fn put_record(
     requires { ⌜ (w ≤ 9) × (i ≤ 400000) × (n ≤ 8) × (r ≤ 4096) ⌝ }
     ensures { λ _. ⌜ now (room .exit) ≡ putRecord w i o k level (λ q. at (now (stamps .entry)) (r * n + q)) n (now (room .entry)) ⌝ }
 {
-    bits::put(room, i, 4, o as u16);
-    bits::put(room, i + 4, w, k);
-    bits::put(room, i + 4 + w, 12, level_bits(level));
+    put::put(room, i, 4, o as u16);
+    put::put(room, i + 4, w, k);
+    put::put(room, i + 4 + w, 12, level_bits(level));
     put_counts(room, w, i + 16 + w, n, stamps, r);
 }
 
@@ -434,7 +434,7 @@ fn put_counts(room: &mut [u8], w: usize, i: usize, n: usize, stamps: &[u16], r: 
 {
     let mut q: usize = 0;
     while q < n {
-        bits::put(room, i + w * q, w, stamp_at(n, stamps, r, q));
+        put::put(room, i + w * q, w, stamp_at(n, stamps, r, q));
         q += 1;
     }
 }
@@ -444,7 +444,7 @@ fn put_padding(room: &mut [u8], i: usize)
     requires { ⌜ i ≤ 400000 ⌝ }
     ensures { λ _. ⌜ now (room .exit) ≡ putPadding i (now (room .entry)) ⌝ }
 {
-    bits::put(room, i, 8 * bytes_for(i) - i, 0);
+    put::put(room, i, 8 * bytes_for(i) - i, 0);
 }
 
 // Whether a number is a level.

@@ -13,10 +13,10 @@ use Rattle.cut.proofs.box_of.Statement.{statement}
 use Rattle.cut.proofs.box_of.Tie as tie
 
 abbrev Inv-loop : tie.InvT-loop
-Inv-loop n events b₀ p₀ b p = (p ≤ n) × (n ≤ 8) × (b ≡ min (weight events p) 65537)
+Inv-loop full n b₀ p₀ b p = (p ≤ n) × (n ≤ 8) × (b ≡ min (weight (full .counts) p) 65537)
 
 abbrev μ-loop : tie.MeasureT-loop
-μ-loop n events b₀ p₀ b p = n - p
+μ-loop full n b₀ p₀ b p = n - p
 
 is-full-requires : tie.Need-is-full-requires Inv-loop μ-loop
 is-full-requires c κs = search needs
@@ -30,23 +30,17 @@ cast-n c = search needs
 loop-holds : tie.Need-loop-holds Inv-loop μ-loop
 unfolding weight productTo
 loop-holds c =
-    let f = isFull-is _ .0 (answered-true (c .before .before .before .is-full .ensures) (c .before .before .if1 .left)) in
+    let f = isFull-is _ .0 (answered-true (c .before .before .is-full .ensures) (c .before .if1 .left)) in
     (omega arith, f .most-eight, refl)
 
-mul-wide : tie.Need-mul-wide Inv-loop μ-loop
-mul-wide c = search needs
-
-array-read-wide : tie.Need-array-read-wide Inv-loop μ-loop
-array-read-wide c = omega arith
-
-wide-requires : tie.Need-wide-requires Inv-loop μ-loop
-wide-requires c κs = search needs
+count-requires : tie.Need-count-requires Inv-loop μ-loop
+count-requires c κs = search needs
 
 add-held : tie.Need-add-held Inv-loop μ-loop
 add-held c = search needs
 
 mul-held : tie.Need-mul-held Inv-loop μ-loop
-mul-held c = omega (arith, mul-under (c .before .before .loop .b) (c .wide .result + 1) 65537 65536 (omega arith) (omega arith))
+mul-held c = omega (arith, mul-under (c .before .before .loop .b) (c .count .result + 1) 65537 65536 (omega arith) (omega arith))
 
 held-requires : tie.Need-held-requires Inv-loop μ-loop
 held-requires c κs = search needs
@@ -61,12 +55,12 @@ loop-again : tie.Need-loop-again Inv-loop μ-loop
 loop-again c = (
   omega arith,
   search needs,
-  c .held .ensures ∙ rw (c .before .before .before .loop .inv .2, c .before .wide .ensures .0, weight-more) (held-more _ _),
+  c .held .ensures ∙ rw (c .before .before .before .loop .inv .2, c .before .count .ensures .0, weight-more) (held-more _ _),
 )
 
 returns-2 : tie.Need-returns-2 Inv-loop μ-loop
 returns-2 c =
-    let b = c .before .before .before .before in
+    let b = c .before .before .before in
     let f = isFull-is _ .0 (answered-true (b .before .is-full .ensures) (b .if1 .left)) in
     let l = eight-counts (b .before .before .args .full) _ (b .before .before .good .0) in
     rw (boxOf-loop _ f l) (rw (le-antisymm (c .before .loop .inv .0) (c .loop-test .left)) at (c .before .loop .inv .2))
@@ -81,9 +75,7 @@ box-of-spec =
     returns
     cast-n
     loop-holds
-    mul-wide
-    array-read-wide
-    wide-requires
+    count-requires
     add-held
     mul-held
     held-requires

@@ -12,10 +12,10 @@ use Rattle.cut.proofs.under.Statement.{statement}
 use Rattle.cut.proofs.under.Tie as tie
 
 abbrev Inv-loop : tie.InvT-loop
-Inv-loop full counts p₀ p = (p ≤ 8) × ((q : ℕ) → q < p → at counts q ≤ mostAt full q)
+Inv-loop full c p₀ p = (p ≤ 8) × ((q : ℕ) → q < p → at (c .counts) q ≤ mostAt full q)
 
 abbrev μ-loop : tie.MeasureT-loop
-μ-loop full counts p₀ p = 8 - p
+μ-loop full c p₀ p = 8 - p
 
 loop-holds : tie.Need-loop-holds Inv-loop μ-loop
 loop-holds c = (omega arith, λ q l. absurd (omega arith))
@@ -23,14 +23,11 @@ loop-holds c = (omega arith, λ q l. absurd (omega arith))
 most-requires : tie.Need-most-requires Inv-loop μ-loop
 most-requires c κs = search needs
 
-mul-if1 : tie.Need-mul-if1 Inv-loop μ-loop
-mul-if1 c = search needs
-
-array-read-if1 : tie.Need-array-read-if1 Inv-loop μ-loop
-array-read-if1 c = search needs
+count-requires : tie.Need-count-requires Inv-loop μ-loop
+count-requires c κs = search needs
 
 returns : tie.Need-returns Inv-loop μ-loop
-returns c = sym (refuted _ (λ h. omega (arith, under-at _ _ .0 h (c .before .before .before .loop .p) (omega arith))))
+returns c = sym (refuted _ (λ h. omega (arith, under-at _ _ .0 h (c .before .before .before .before .loop .p) (omega arith))))
 
 add-p : tie.Need-add-p Inv-loop μ-loop
 add-p c = search needs
@@ -39,7 +36,7 @@ loop-less : tie.Need-loop-less Inv-loop μ-loop
 loop-less c = search needs
 
 loop-again : tie.Need-loop-again Inv-loop μ-loop
-loop-again c = (omega arith, below-more _ _ (c .before .before .before .loop .inv .1) (omega arith))
+loop-again c = (omega arith, below-more _ _ (c .before .before .before .before .loop .inv .1) (omega arith))
 
 returns-2 : tie.Need-returns-2 Inv-loop μ-loop
 returns-2 c = sym (under-at _ _ .1 (λ q l. c .before .loop .inv .1 q (omega arith)))
@@ -52,8 +49,7 @@ under-spec =
     μ-loop
     loop-holds
     most-requires
-    mul-if1
-    array-read-if1
+    count-requires
     returns
     add-p
     loop-less

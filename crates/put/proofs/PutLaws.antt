@@ -2,22 +2,23 @@
 -- and the bytes; the turns of the code's loop; what is put where it fits, and where not; two replies. Assumes nothing.
 use mathlib.Core.Path.{_≡_, refl, sym, ap, _∙_}
 use mathlib.Core.Bool.{Bool, true, false, _&&_, and-eq-true-iff}
-use mathlib.Core.Logic.{_≢_, _⊎_, inl, inr, ⊎-elim}
+use mathlib.Core.Logic.{_↔_, _≢_, _⊎_, inl, inr, ⊎-elim}
 use mathlib.Core.List.{List}
 use Prim.Native.Nat.{ℕ, zero, suc, _+_, _-_, _*_, _/_, _%_, _^_, _≤_, _<_}
-use native.Mathlib.Nat.{pow-suc, mod-lt, le-antisymm, sub-self, div-one}
+use native.Mathlib.Nat.{pow-suc, mod-lt, le-antisymm, sub-self, div-one, div-lt-iff-lt-mul}
 use native.Mathlib.Decide.{ℕ-discrete, decLt}
 use native.Mathlib.Numerals.{add-one}
 use native.Mathlib.Omega.{arith}
 use lib.Arith.{digits-lt}
-use lib.Pow.{pow-pos, pow-add, shr-shr, shr-lt, high, low, mod-mod-pow}
+use lib.Pow.{pow-pos, pow-mono, pow-add, shr-shr, shr-lt, high, low, mod-mod-pow}
 use lib.Pow as Pow
 use lib.Dec.{leb, ltb}
 use lib.ListN.{length, getD, set, drop, length-set}
 use lib.Seq.{getD-set-same, getD-set-other, set-out, drop-set-lt}
-use borrow.Author.Tests.{le-leb, lt-ltb, leb-true, ltb-true}
-use Rattle.bits.specs.Bits.{bitAt, field, withBit, setBit, putAt, isPut, putOf, Put}
-use Rattle.bits.proofs.BitsLaws.{field-ext}
+use borrow.Author.Tests.{le-leb, lt-ltb, le-ltb, leb-true, ltb-true}
+use Rattle.bits.specs.Bits.{bitAt, field}
+use Rattle.put.specs.Put.{withBit, setBit, putAt, canHold, isPut, putOf, Put}
+use Rattle.bits.proofs.BitsLaws.{one-shifted, field-ext}
 use Rattle.cuts.proofs.ReplyLaws.{refuted, replies-equal}
 
 pub withBit-same : (x i b : ℕ) → b < 2 → withBit x i b / 2 ^ i % 2 ≡ b
@@ -68,6 +69,13 @@ withBit-code x i b p e = rw (e, ← pow-suc) refl
 
 pub withBit-code-lt : (x i b p : ℕ) → x < 256 → (i < 8) × (b < 2) → p ≡ 2 ^ i → (x / (p * 2) * 2 + b) * p + x % p < 256
 withBit-code-lt x i b p h g e = rw (withBit-code x i b p e) (withBit-lt x i b h (g .0) (g .1))
+
+-- the power that the code shifts out of 1 is that of a bit of a byte
+pub power-byte : (i : ℕ) → i < 8 → (1 * 2 ^ i % 2 ^ 64 ≡ 2 ^ i) × (0 < 1 * 2 ^ i % 2 ^ 64) × (1 * 2 ^ i % 2 ^ 64 ≤ 128)
+power-byte i h =
+    let l : i ≤ 7 = omega arith in
+    let e = one-shifted i (omega arith) in
+    (e, rw e (pow-pos i), rw e (pow-mono l))
 
 pub set-same : (s : List ℕ) (i b : ℕ) → i < 8 * length s → b < 2 → bitAt (setBit s i b) i ≡ b
 unfolding bitAt setBit
@@ -152,57 +160,77 @@ put-drop s at zero v b h = refl
 put-drop s at (suc k) v b h = set-drop (putAt s at k (v / 2)) (at + k) (v % 2) b (omega arith) ∙ put-drop s at k (v / 2) b (omega arith)
 
 -- bit at + i by its byte and its bit there, so that at + i need not be a number of the machine
-set-code : (s : List ℕ) (at i b : ℕ)
-    → set s (at / 8 + (at % 8 + i) / 8) (withBit (getD s (at / 8 + (at % 8 + i) / 8) 0) (7 - (at % 8 + i) % 8) b) ≡ setBit s (at + i) b
+pub set-code : (s : List ℕ) (at i b x : ℕ) → x ≡ withBit (getD s (at / 8 + (at % 8 + i) / 8) 0) (7 - (at % 8 + i) % 8) b
+    → set s (at / 8 + (at % 8 + i) / 8) x ≡ setBit s (at + i) b
 unfolding setBit
-set-code s at i b =
+set-code s at i b x e =
     let e₁ : at / 8 + (at % 8 + i) / 8 ≡ (at + i) / 8 = omega arith in
     let e₂ : (at % 8 + i) % 8 ≡ (at + i) % 8 = omega arith in
-    rw (e₁, e₂) refl
+    rw (e, e₁, e₂) refl
 
 -- a turn of the loop over the bits, where t is what the turns before left
-pub put-step : (s t : List ℕ) (at i k v : ℕ) → i < k → t ≡ putAt s at i (v / 2 ^ (k - i))
-    → set t (at / 8 + (at % 8 + i) / 8) (withBit (getD t (at / 8 + (at % 8 + i) / 8) 0) (7 - (at % 8 + i) % 8) (v / 2 ^ (k - 1 - i) % 2))
-    ≡ putAt s at (i + 1) (v / 2 ^ (k - (i + 1)))
+pub put-step : (s t u : List ℕ) (at i k v : ℕ) → i < k → t ≡ putAt s at i (v / 2 ^ (k - i)) → u ≡ setBit t (at + i) (v / 2 ^ (k - 1 - i) % 2)
+    → u ≡ putAt s at (i + 1) (v / 2 ^ (k - (i + 1)))
 unfolding putAt
-put-step s t at i k v h e =
+put-step s t u at i k v h e f =
     let e₁ : k - suc i ≡ k - 1 - i = omega arith in
     let e₂ : k - 1 - i + 1 ≡ k - i = omega arith in
     let e₃ : v / 2 ^ (k - 1 - i) / 2 ^ 1 ≡ v / 2 ^ (k - i) = rw e₂ at (shr-shr v (k - 1 - i) 1) in
-    set-code t at i (v / 2 ^ (k - 1 - i) % 2) ∙ rw (add-one i, e₁, e₃, e) refl
+    f ∙ rw (add-one i, e₁, e₃, e) refl
 
 -- the loop's end
 pub put-done : (s : List ℕ) (at i k v : ℕ) → i ≤ k → k ≤ i → putAt s at i (v / 2 ^ (k - i)) ≡ putAt s at k v
 put-done s at i k v h g = rw (le-antisymm h g, sub-self k) (rw (div-one v) refl)
 
+pub canHold-fits : (n at k v : ℕ) → canHold n at k v ≡ true → (1 ≤ k) × (k ≤ 16) × (at + k ≤ 8 * n) × (v < 2 ^ k)
+unfolding canHold
+canHold-fits n at k v h =
+    let p = and-eq-true-iff (leb 1 k && leb k 16 && leb (at + k) (8 * n)) (ltb v (2 ^ k)) .0 h in
+    let q = and-eq-true-iff (leb 1 k && leb k 16) (leb (at + k) (8 * n)) .0 (p .0) in
+    let r = and-eq-true-iff (leb 1 k) (leb k 16) .0 (q .0) in
+    (leb-true 1 k (r .0), leb-true k 16 (r .1), leb-true (at + k) (8 * n) (q .1), ltb-true v (2 ^ k) (p .1))
+
+pub canHold-not : (n at k v : ℕ) → (1 ≤ k → k ≤ 16 → at + k ≤ 8 * n → v < 2 ^ k → ⊥) → false ≡ canHold n at k v
+canHold-not n at k v h = sym (refuted (canHold n at k v) (λ t. let f = canHold-fits n at k v t in h (f .0) (f .1) (f .2) (f .3)))
+
+-- a value of k bits is one whose bits above them are 0
+shifted-none : (v k : ℕ) → ltb (v / 2 ^ k) 1 ≡ ltb v (2 ^ k)
+shifted-none v k = go (decLt v (2 ^ k))
+  where
+    iff : (v / 2 ^ k < 1) ↔ (v < 1 * 2 ^ k)
+    iff = div-lt-iff-lt-mul (pow-pos k)
+
+    go : Dec (v < 2 ^ k) → ltb (v / 2 ^ k) 1 ≡ ltb v (2 ^ k)
+    go (yes h) = lt-ltb _ _ (iff .1 (omega arith)) ∙ sym (lt-ltb v (2 ^ k) h)
+    go (no h) =
+        let g : v / 2 ^ k < 1 → ⊥ = λ l. omega (arith, iff .0 l) in
+        le-ltb (v / 2 ^ k) 1 (omega arith) ∙ sym (le-ltb v (2 ^ k) (omega arith))
+
+pub canHold-shifted : (n at k v : ℕ) → 1 ≤ k → k ≤ 16 → at + k ≤ 8 * n → ltb (v / 2 ^ k) 1 ≡ canHold n at k v
+unfolding canHold
+canHold-shifted n at k v h₁ h₂ h₃ = simp (le-leb _ _ h₁, le-leb _ _ h₂, le-leb _ _ h₃) (shifted-none v k)
+
 pub isPut-fits : (s : List ℕ) (at k v : ℕ) → isPut s at k v ≡ true
     → (1 ≤ k) × (k ≤ 16) × (at + k ≤ 8 * length s) × (v < 2 ^ k)
 unfolding isPut
-isPut-fits s at k v h =
-    let p = and-eq-true-iff (leb 1 k && leb k 16 && leb (at + k) (8 * length s)) (ltb v (2 ^ k)) .0 h in
-    let q = and-eq-true-iff (leb 1 k && leb k 16) (leb (at + k) (8 * length s)) .0 (p .0) in
-    let r = and-eq-true-iff (leb 1 k) (leb k 16) .0 (q .0) in
-    (leb-true 1 k (r .0), leb-true k 16 (r .1), leb-true (at + k) (8 * length s) (q .1), ltb-true v (2 ^ k) (p .1))
+isPut-fits s = canHold-fits (length s)
 
 pub isPut-true : (s : List ℕ) (at k v : ℕ) → 1 ≤ k → k ≤ 16 → at + k ≤ 8 * length s → v < 2 ^ k → isPut s at k v ≡ true
-unfolding isPut
+unfolding isPut canHold
 isPut-true s at k v h₁ h₂ h₃ h₄ = simp (le-leb _ _ h₁, le-leb _ _ h₂, le-leb _ _ h₃, lt-ltb _ _ h₄)
 
 pub putOf-fits : (s : List ℕ) (at k v : ℕ) → 1 ≤ k → k ≤ 16 → at + k ≤ 8 * length s → v < 2 ^ k → putOf s at k v ≡ putAt s at k v
 unfolding putOf
 putOf-fits s at k v h₁ h₂ h₃ h₄ = rw (isPut-true s at k v h₁ h₂ h₃ h₄) refl
 
--- nothing is put where one of the tests fails
-pub put-none : (s : List ℕ) (at k v : ℕ) → (1 ≤ k → k ≤ 16 → at + k ≤ 8 * length s → v < 2 ^ k → ⊥) → Put s at k v false s
-unfolding putOf
-put-none s at k v h =
-    let e : isPut s at k v ≡ false = refuted (isPut s at k v) (λ t. let f = isPut-fits s at k v t in h (f .0) (f .1) (f .2) (f .3)) in
-    record { said = sym e; bytes = rw e refl }
+-- nothing is put where s cannot hold the value there
+pub put-none : (s : List ℕ) (at k v : ℕ) → canHold (length s) at k v ≡ false → Put s at k v false s
+unfolding isPut putOf
+put-none s at k v e = record { said = sym e; bytes = rw e refl }
 
-pub put-some : (s after : List ℕ) (at k v : ℕ) → 1 ≤ k → k ≤ 16 → at + k ≤ 8 * length s → v < 2 ^ k → after ≡ putAt s at k v
-    → Put s at k v true after
-put-some s after at k v h₁ h₂ h₃ h₄ e =
-    record { said = sym (isPut-true s at k v h₁ h₂ h₃ h₄); bytes = e ∙ sym (putOf-fits s at k v h₁ h₂ h₃ h₄) }
+pub put-some : (s after : List ℕ) (at k v : ℕ) → canHold (length s) at k v ≡ true → after ≡ putAt s at k v → Put s at k v true after
+unfolding isPut putOf
+put-some s after at k v e h = record { said = sym e; bytes = rw e h }
 
 -- one reply, and one list of bytes after it
 pub put-unique : (s : List ℕ) (at k v : ℕ) (r r′ : Bool) (after after′ : List ℕ) → Put s at k v r after → Put s at k v r′ after′
