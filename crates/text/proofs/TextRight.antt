@@ -17,7 +17,7 @@ use Rattle.cut.specs.declared.Cut.{Cut}
 use Rattle.text.specs.Text.{decimalTo, decimal, numbers, refusedText, possText, defText, verdictText, textIn, takenBy, Printed}
 use Rattle.text.specs.Written.{number}
 use Rattle.text.proofs.DecimalLaws.{decimalTo-digit, decimalTo-tens, decimalTo-more, length-decimalTo}
-use Rattle.text.proofs.LineLaws.{poss-no, def-yes, length-refused, length-poss-yes, length-def-no, length-verdict}
+use Rattle.text.proofs.LineLaws.{def-yes, length-refused, length-poss-yes, length-poss-no, length-def-no, length-verdict}
 
 -- one reply, and one room after it
 pub printed-unique : {text before after after′ : List ℕ} {r r′ : ℕ} → Printed text before r after → Printed text before r′ after′
@@ -120,7 +120,7 @@ text-bound poss witness def path l hw hp = rw length-verdict (omega (arith, firs
   where
     first : (poss : Bool) → length (possText poss witness) ≤ 41
     first true = rw (length-poss-yes witness refl) (omega (arith, length-numbers 2 witness hw))
-    first false = rw (poss-no witness refl) (omega arith)
+    first false = rw (length-poss-no witness refl) (omega arith)
 
     second : (def : Bool) → length (defText def path) ≤ 8 + 2 * length path
     second true = rw (def-yes path refl) (omega arith)

@@ -1,90 +1,90 @@
 // The printed text of a reply, put into a lent room where it fits: its length first, then its pieces one after the other.
 ghost use mathlib.Core.Path.{_≡_};
-ghost use mathlib.Core.List.{[], _∷_};
-ghost use Prim.Native.Nat.{_+_, _≤_, _<_, min};
-ghost use lib.Dec.{leb};
+ghost use mathlib.Core.Bool.{cond};
+ghost use mathlib.Core.List.{_++_};
+ghost use Prim.Native.Nat.{_+_, _-_, _≤_, _<_, min};
 ghost use lib.ListN.{length};
 ghost use Rattle.cut.specs.Value.{countsOf};
-ghost use Rattle.text.specs.Text.{decimal, numbers, refusedText, possText, defText, verdictText, Printed};
-ghost use Rattle.text.specs.Written.{number, line, Written};
+ghost use Rattle.text.specs.Text.{newline, numbers, possYes, possNo, defYes, defNo, refusedText, possText, defText, verdictText, Printed};
+ghost use Rattle.text.specs.Written.{wordOf, Measured, number, ended, line, Written, Offered};
 use cut::Cut;
 
-// The words of a reply's lines. Those with no number behind them are whole lines.
-const REFUSED: [u8; 7] = *b"refused";
+// A word that begins a line: the first n of its bytes.
+struct Word {
+    bytes: [u8; 8],
+    n: usize,
+}
 
-const POSS_YES: [u8; 8] = *b"poss yes";
+const REFUSED: Word = Word {
+    bytes: *b"refused ",
+    n: 7,
+};
 
-const POSS_NO: [u8; 8] = *b"poss no\n";
+const POSS_YES: Word = Word {
+    bytes: *b"poss yes",
+    n: 8,
+};
 
-const DEF_YES: [u8; 8] = *b"def yes\n";
+const POSS_NO: Word = Word {
+    bytes: *b"poss no ",
+    n: 7,
+};
 
-const DEF_NO: [u8; 6] = *b"def no";
+// A whole line, since no number stands behind it.
+const DEF_YES: Word = Word {
+    bytes: *b"def yes\n",
+    n: 8,
+};
 
-const NEWLINE: [u8; 1] = *b"\n";
+const DEF_NO: Word = Word {
+    bytes: *b"def no  ",
+    n: 6,
+};
+
+// The bytes of the second line, but for those of the path.
+const DEF_YES_LINE: usize = 8;
+
+const DEF_NO_LINE: usize = 7;
 
 // The line of a refusal and its length; 0, and nothing is changed, where the room is too short.
 pub fn refused(number: u8, station: u8, event: u16, room: &mut [u8]) -> usize
     ensures { λ r. ⌜ Printed (refusedText number station event) (now (room .entry)) r (now (room .exit)) ⌝ }
 {
     let values = [number as u16, station as u16, event];
-    if room.len() < REFUSED.len() + numbers_length(&values) + NEWLINE.len() {
-        return 0;
-    }
-    put_line(room, &REFUSED, &values)
+    let all = room.len();
+    put_line(room, all, REFUSED, &values)
 }
 
 // The two lines of verdicts and their length; 0, and nothing is changed, where the room is too short.
 pub fn verdicts(poss: bool, witness: Cut, def: bool, path: &[u8], room: &mut [u8]) -> usize
     ensures { λ r. ⌜ Printed (verdictText poss (countsOf witness) def (now (path .entry))) (now (room .entry)) r (now (room .exit)) ⌝ }
 {
-    let need = poss_length(poss, witness);
-    if room.len() < need {
+    let left = left_by_def(def, path, room.len());
+    let at = put_poss(room, left, poss, witness);
+    if at == 0 {
         return 0;
     }
-    if !def_fits(def, path, room.len() - need) {
-        return 0;
-    }
-    let at = put_poss(room, poss, witness);
     put_def(room, at, def, path)
 }
 
-// The length of the first line.
-fn poss_length(poss: bool, witness: Cut) -> usize
-    ensures { λ r. ⌜ r ≡ length (possText poss (countsOf witness)) ⌝ }
-{
-    if poss {
-        let counts = witness.counts;
-        let n = stations(witness.n);
-        return POSS_YES.len() + numbers_length(&counts[..n]) + NEWLINE.len();
-    }
-    POSS_NO.len()
-}
-
-// Whether the second line fits into as many bytes as are left.
-fn def_fits(def: bool, path: &[u8], left: usize) -> bool
-    ensures { λ r. ⌜ r ≡ leb (length (defText def (now (path .entry)))) left ⌝ }
+// What the second line leaves of as many bytes for the first: none where it does not fit.
+fn left_by_def(def: bool, path: &[u8], all: usize) -> usize
+    ensures { λ r. ⌜ r ≡ all - length (defText def (now (path .entry))) ⌝ }
 {
     if def {
-        return DEF_YES.len() <= left;
+        return less(all, DEF_YES_LINE);
     }
-    let need = DEF_NO.len() + NEWLINE.len();
-    if left < need {
-        return false;
-    }
-    path_fits(path, left - need)
+    left_by_path(path, less(all, DEF_NO_LINE))
 }
 
-// The first line, at the front of the room.
-fn put_poss(room: &mut [u8], poss: bool, witness: Cut) -> usize
-    requires { ⌜ length (possText poss (countsOf witness)) ≤ length (now room) ⌝ }
-    ensures { λ r. ⌜ Written (possText poss (countsOf witness)) (now (room .entry)) 0 r (now (room .exit)) ⌝ }
+// The first line, at the front of the room, where it has no more bytes than are left.
+fn put_poss(room: &mut [u8], left: usize, poss: bool, witness: Cut) -> usize
+    requires { ⌜ left ≤ length (now room) ⌝ }
+    ensures { λ r. ⌜ Offered (possText poss (countsOf witness)) left (now (room .entry)) r (now (room .exit)) ⌝ }
 {
-    if poss {
-        let counts = witness.counts;
-        let n = stations(witness.n);
-        return put_line(room, &POSS_YES, &counts[..n]);
-    }
-    put_word(room, 0, &POSS_NO)
+    let counts = witness.counts;
+    let n = shown(poss, witness.n);
+    put_line(room, left, poss_word(poss), &counts[..n])
 }
 
 // The second line.
@@ -92,30 +92,31 @@ fn put_def(room: &mut [u8], at: usize, def: bool, path: &[u8]) -> usize
     requires { ⌜ at + length (defText def (now path)) ≤ length (now room) ⌝ }
     ensures { λ r. ⌜ Written (defText def (now (path .entry))) (now (room .entry)) at r (now (room .exit)) ⌝ }
 {
+    let next = put_word(room, at, def_word(def));
     if def {
-        return put_word(room, at, &DEF_YES);
+        return next;
     }
-    let a = put_word(room, at, &DEF_NO);
-    let b = put_path(room, a, path);
-    put_word(room, b, &NEWLINE)
+    put_path(room, next, path)
 }
 
-// A line at the front of the room: a word, then numbers.
-fn put_line(room: &mut [u8], word: &[u8], values: &[u16]) -> usize
-    requires { ⌜ length (line (now word) (now values)) ≤ length (now room) ⌝ }
-    ensures { λ r. ⌜ Written (line (now (word .entry)) (now (values .entry))) (now (room .entry)) 0 r (now (room .exit)) ⌝ }
+// A line at the front of the room, a word and then numbers, where it has no more bytes than are left; else 0, and nothing is changed.
+fn put_line(room: &mut [u8], left: usize, word: Word, values: &[u16]) -> usize
+    requires { ⌜ (left ≤ length (now room)) × Measured word × (length (now values) ≤ 8) ⌝ }
+    ensures { λ r. ⌜ Offered (line (wordOf word) (now (values .entry))) left (now (room .entry)) r (now (room .exit)) ⌝ }
 {
-    let a = put_word(room, 0, word);
-    let b = put_numbers(room, a, values);
-    put_word(room, b, &NEWLINE)
+    if left < word.n + numbers_length(values) {
+        return 0;
+    }
+    let next = put_word(room, 0, word);
+    put_numbers(room, next, values)
 }
 
-// The length of at most eight numbers with a space before each.
+// The length of at most eight numbers with a space before each, and of the newline.
 fn numbers_length(values: &[u16]) -> usize
     requires { ⌜ length (now values) ≤ 8 ⌝ }
-    ensures { λ r. ⌜ (r ≡ length (numbers (now (values .entry)))) × (r ≤ 48) ⌝ }
+    ensures { λ r. ⌜ (r ≡ length (ended (now (values .entry)))) × (r ≤ 49) ⌝ }
 {
-    let mut sum: usize = 0;
+    let mut sum: usize = 1;
     let mut i: usize = 0;
     while i < values.len() {
         sum += number_length(values[i]);
@@ -124,27 +125,23 @@ fn numbers_length(values: &[u16]) -> usize
     sum
 }
 
-// Whether the stations of a path, a space before each, fit into as many bytes as are left.
-fn path_fits(path: &[u8], left: usize) -> bool
-    ensures { λ r. ⌜ r ≡ leb (length (numbers (now (path .entry)))) left ⌝ }
+// What the stations of a path, a space before each, leave of as many bytes: none where they do not fit.
+fn left_by_path(path: &[u8], all: usize) -> usize
+    ensures { λ r. ⌜ r ≡ all - length (numbers (now (path .entry))) ⌝ }
 {
-    let mut rest = left;
+    let mut rest = all;
     let mut i: usize = 0;
     while i < path.len() {
-        let need = number_length(path[i] as u16);
-        if rest < need {
-            return false;
-        }
-        rest -= need;
+        rest = less(rest, number_length(path[i] as u16));
         i += 1;
     }
-    true
+    rest
 }
 
-// Numbers with a space before each.
+// Numbers with a space before each, and a newline.
 fn put_numbers(room: &mut [u8], at: usize, values: &[u16]) -> usize
-    requires { ⌜ at + length (numbers (now values)) ≤ length (now room) ⌝ }
-    ensures { λ r. ⌜ Written (numbers (now (values .entry))) (now (room .entry)) at r (now (room .exit)) ⌝ }
+    requires { ⌜ at + length (ended (now values)) ≤ length (now room) ⌝ }
+    ensures { λ r. ⌜ Written (ended (now (values .entry))) (now (room .entry)) at r (now (room .exit)) ⌝ }
 {
     let mut next = at;
     let mut i: usize = 0;
@@ -152,13 +149,14 @@ fn put_numbers(room: &mut [u8], at: usize, values: &[u16]) -> usize
         next = put_number(room, next, values[i]);
         i += 1;
     }
-    next
+    room[next] = b'\n';
+    next + 1
 }
 
-// The stations of a path with a space before each.
+// The stations of a path with a space before each, and a newline.
 fn put_path(room: &mut [u8], at: usize, path: &[u8]) -> usize
-    requires { ⌜ at + length (numbers (now path)) ≤ length (now room) ⌝ }
-    ensures { λ r. ⌜ Written (numbers (now (path .entry))) (now (room .entry)) at r (now (room .exit)) ⌝ }
+    requires { ⌜ at + length (ended (now path)) ≤ length (now room) ⌝ }
+    ensures { λ r. ⌜ Written (ended (now (path .entry))) (now (room .entry)) at r (now (room .exit)) ⌝ }
 {
     let mut next = at;
     let mut i: usize = 0;
@@ -166,17 +164,20 @@ fn put_path(room: &mut [u8], at: usize, path: &[u8]) -> usize
         next = put_number(room, next, path[i] as u16);
         i += 1;
     }
-    next
+    room[next] = b'\n';
+    next + 1
 }
 
 // A word.
-fn put_word(room: &mut [u8], at: usize, word: &[u8]) -> usize
-    requires { ⌜ at + length (now word) ≤ length (now room) ⌝ }
-    ensures { λ r. ⌜ Written (now (word .entry)) (now (room .entry)) at r (now (room .exit)) ⌝ }
+fn put_word(room: &mut [u8], at: usize, word: Word) -> usize
+    requires { ⌜ Measured word × (at + word .n ≤ length (now room)) ⌝ }
+    ensures { λ r. ⌜ Written (wordOf word) (now (room .entry)) at r (now (room .exit)) ⌝ }
 {
+    let bytes = word.bytes;
+    let n = word.n;
     let mut i: usize = 0;
-    while i < word.len() {
-        room[at + i] = word[i];
+    while i < n {
+        room[at + i] = bytes[i];
         i += 1;
     }
     at + i
@@ -195,50 +196,63 @@ fn number_length(x: u16) -> usize
     n
 }
 
-// A number with its space.
+// A number with its space: its digits from the last to the first.
 fn put_number(room: &mut [u8], at: usize, x: u16) -> usize
     requires { ⌜ at + length (number x) ≤ length (now room) ⌝ }
     ensures { λ r. ⌜ Written (number x) (now (room .entry)) at r (now (room .exit)) ⌝ }
 {
-    let next = put_byte(room, at, b' ');
-    put_digits(room, next, x)
-}
-
-// A number's digits: those of its tenth, then its last.
-fn put_digits(room: &mut [u8], at: usize, x: u16) -> usize
-    requires { ⌜ at + length (decimal x) ≤ length (now room) ⌝ }
-    ensures { λ r. ⌜ Written (decimal x) (now (room .entry)) at r (now (room .exit)) ⌝ }
-{
-    if x < 10 {
-        return put_digit(room, at, x);
+    let next = at + number_length(x);
+    room[at] = b' ';
+    let mut y = x;
+    let mut last = next - 1;
+    while 10 <= y {
+        room[last] = b'0' + (y % 10) as u8;
+        y = y / 10;
+        last -= 1;
     }
-    let last = put_digits(room, at, x / 10);
-    put_digit(room, last, x % 10)
+    room[last] = b'0' + y as u8;
+    next
 }
 
-// A digit.
-fn put_digit(room: &mut [u8], at: usize, d: u16) -> usize
-    requires { ⌜ (at < length (now room)) × (d < 10) ⌝ }
-    ensures { λ r. ⌜ Written ((48 + d) ∷ []) (now (room .entry)) at r (now (room .exit)) ⌝ }
+// The word of the first line.
+fn poss_word(poss: bool) -> Word
+    ensures { λ r. ⌜ Measured r × (wordOf r ≡ cond poss possYes possNo) ⌝ }
 {
-    put_byte(room, at, b'0' + d as u8)
-}
-
-// A byte.
-fn put_byte(room: &mut [u8], at: usize, b: u8) -> usize
-    requires { ⌜ at < length (now room) ⌝ }
-    ensures { λ r. ⌜ Written (b ∷ []) (now (room .entry)) at r (now (room .exit)) ⌝ }
-{
-    room[at] = b;
-    at + 1
-}
-
-// How many counts a witness has: n, or all eight.
-fn stations(n: u8) -> usize
-    ensures { λ r. ⌜ r ≡ min n 8 ⌝ }
-{
-    if n < 8 {
-        return n as usize;
+    if poss {
+        return POSS_YES;
     }
-    8
+    POSS_NO
+}
+
+// The word of the second line.
+fn def_word(def: bool) -> Word
+    ensures { λ r. ⌜ Measured r × (wordOf r ≡ cond def (defYes ++ newline) defNo) ⌝ }
+{
+    if def {
+        return DEF_YES;
+    }
+    DEF_NO
+}
+
+// How many counts the first line shows: n, at most eight; none behind "poss no".
+fn shown(poss: bool, n: u8) -> usize
+    ensures { λ r. ⌜ (r ≡ cond poss (min n 8) 0) × (r ≤ 8) ⌝ }
+{
+    if poss {
+        if n < 8 {
+            return n as usize;
+        }
+        return 8;
+    }
+    0
+}
+
+// The difference, 0 where it would be below.
+fn less(x: usize, y: usize) -> usize
+    ensures { λ r. ⌜ r ≡ x - y ⌝ }
+{
+    if x < y {
+        return 0;
+    }
+    x - y
 }

@@ -1,17 +1,18 @@
--- After i turns the sum is the length of the first i numbers, at most 6 bytes each; a turn adds one more.
-use mathlib.Core.Path.{_≡_, refl}
-use Prim.Native.Nat.{_-_, _*_, _≤_}
+-- After i turns the sum is the length of the first i numbers, at most 6 bytes each, and of the newline; a turn adds one more.
+use mathlib.Core.Path.{_≡_, refl, sym, _∙_}
+use Prim.Native.Nat.{_+_, _-_, _*_, _≤_}
 use native.Mathlib.Omega.{arith}
 use lib.ListN.{length, take}
 use lib.Seq.{take-all}
 use borrow.Author.Needs.{needs}
 use Rattle.text.specs.Text.{numbers}
 use Rattle.text.proofs.DecimalLaws.{length-numbers-more}
+use Rattle.text.proofs.TextLaws.{length-ended}
 use Rattle.text.proofs.numbers_length.Statement.{statement}
 use Rattle.text.proofs.numbers_length.Tie as tie
 
 abbrev Inv-loop : tie.InvT-loop
-Inv-loop values sum₀ i₀ sum i = (i ≤ length values) × (sum ≡ length (numbers (take i values))) × (sum ≤ 6 * i)
+Inv-loop values sum₀ i₀ sum i = (i ≤ length values) × (sum ≡ length (numbers (take i values)) + 1) × (sum ≤ 6 * i + 1)
 
 abbrev μ-loop : tie.MeasureT-loop
 μ-loop values sum₀ i₀ sum i = length values - i
@@ -47,7 +48,7 @@ loop-again c =
 returns : tie.Need-returns Inv-loop μ-loop
 returns c =
     let e = take-all (c .before .loop .i) (c .before .before .before .args .values .now) (c .loop-test .left) in
-    (rw e at (c .before .loop .inv .1), omega arith)
+    (rw e at (c .before .loop .inv .1) ∙ sym (length-ended _), omega arith)
 
 pub numbers-length-spec : {M : Type 1} → statement M
 numbers-length-spec =

@@ -1,45 +1,46 @@
--- The word, the numbers and the newline stand one behind the other; each fits since the line does.
+-- What is compared with the bytes that are left is the length of the line; where it fits, its end stands behind its word.
 use native.Mathlib.Omega.{arith}
 use borrow.Author.Needs.{needs}
-use Rattle.text.proofs.LineLaws.{length-line, written-line}
+use Rattle.text.proofs.LineLaws.{line-none, line-whole}
 use Rattle.text.proofs.put_line.Statement.{statement}
 use Rattle.text.proofs.put_line.Tie as tie
 
-put-word-requires : tie.Need-put-word-requires
-put-word-requires c κs =
-    let a = c .before .before .before .before .args in
-    omega (arith, length-line (a .word .now) (a .values .now))
+numbers-length-requires : tie.Need-numbers-length-requires
+numbers-length-requires c κs = search needs
 
-put-numbers-requires : tie.Need-put-numbers-requires
-put-numbers-requires c κs =
-    let a = c .before .before .before .before .before .before .before .before .args in
-    omega (arith, length-line (a .word .now) (a .values .now))
-
-slice-aggregate-put-word : tie.Need-slice-aggregate-put-word
-slice-aggregate-put-word c = search needs
-
-put-word-requires-2 : tie.Need-put-word-requires-2
-put-word-requires-2 c κs =
-    let P = c .before .before .before .before in
-    let a = P .before .before .before .before .before .before .before .before .before .args in
-    omega (arith, length-line (a .word .now) (a .values .now))
-
-same-length : tie.Need-same-length
-same-length c = search needs
+add-if1 : tie.Need-add-if1
+add-if1 c = search needs
 
 returns : tie.Need-returns
 returns c =
     let N = c .before .before in
-    let P = N .before .before .before .before .before in
-    written-line _ _ (P .before .before .before .before .put-word .ensures) (P .put-numbers .ensures) (N .put-word2 .ensures)
+    line-none _ _ _ _ _ (N .before .before .before .pre .1) (N .numbers-length .ensures .0) (omega arith)
+
+put-word-requires : tie.Need-put-word-requires
+put-word-requires c κs = search needs
+
+put-numbers-requires : tie.Need-put-numbers-requires
+put-numbers-requires c κs = search needs
+
+same-length : tie.Need-same-length
+same-length c = search needs
+
+returns-2 : tie.Need-returns-2
+returns-2 c =
+    let P = c .before .before in
+    let W = P .before .before .before .before in
+    let E = W .before .before in
+    let N = E .before .before in
+    line-whole _ _ _ _ (N .before .before .before .pre .1) (N .numbers-length .ensures .0) (omega arith) (W .put-word .ensures) (P .put-numbers .ensures)
 
 pub put-line-spec : {M : Type 1} → statement M
 put-line-spec =
     tie.close
     (tie.spec
+    numbers-length-requires
+    add-if1
+    returns
     put-word-requires
     put-numbers-requires
-    slice-aggregate-put-word
-    put-word-requires-2
     same-length
-    returns)
+    returns-2)

@@ -1,14 +1,13 @@
--- After i turns the first i numbers are put; a turn puts one more, which fits since all do.
+-- After i turns the first i numbers are put; a turn puts one more, which fits since all do. The newline stands behind all.
 use mathlib.Core.Path.{_≡_, refl, _∙_}
 use Prim.Native.Nat.{_-_, _≤_}
 use native.Mathlib.Omega.{arith}
-use lib.ListN.{length, take}
-use lib.Seq.{take-all}
+use lib.ListN.{length, take, length-set}
 use borrow.Author.Needs.{needs}
 use Rattle.text.specs.Text.{numbers}
 use Rattle.text.specs.Written.{Written}
 use Rattle.text.proofs.DecimalLaws.{numbers-fit}
-use Rattle.text.proofs.TextLaws.{numbers-none, numbers-then}
+use Rattle.text.proofs.TextLaws.{length-ended, numbers-none, numbers-then, ended-then, newline-fits}
 use Rattle.text.proofs.put_numbers.Statement.{statement}
 use Rattle.text.proofs.put_numbers.Tie as tie
 
@@ -32,7 +31,7 @@ put-number-requires c κs =
     let I = c .before .before in
     let L = I .before .loop in
     let a = I .before .before .before .before .args in
-    omega (arith, numbers-fit (a .values .now) (L .i) (a .at) (L .next) (length (a .room .now)) (I .loop-test .taken) (omega arith) (L .inv .1 .behind))
+    omega (arith, numbers-fit (a .values .now) (L .i) (a .at) (L .next) (length (a .room .now)) (I .loop-test .taken) (omega (arith, length-ended (a .values .now))) (L .inv .1 .behind))
 
 add-i : tie.Need-add-i Inv-loop μ-loop
 add-i c = search needs
@@ -46,11 +45,23 @@ loop-again c =
     let I = P .before .before .before in
     (omega arith, numbers-then _ (I .loop-test .taken) (I .before .loop .inv .1) (P .put-number .ensures), P .put-number .kept .0 ∙ I .before .loop .inv .2)
 
+slice-write-room : tie.Need-slice-write-room Inv-loop μ-loop
+slice-write-room c =
+    let L = c .before .loop in
+    let a = c .before .before .before .before .args in
+    omega (arith, newline-fits (a .values .now) (L .i) (a .at) (L .next) (length (a .room .now)) (omega arith) (L .inv .1 .behind))
+
+add-result : tie.Need-add-result Inv-loop μ-loop
+add-result c =
+    let L = c .before .loop in
+    let a = c .before .before .before .before .args in
+    omega (arith, newline-fits (a .values .now) (L .i) (a .at) (L .next) (length (a .room .now)) (omega arith) (L .inv .1 .behind))
+
 same-length : tie.Need-same-length Inv-loop μ-loop
-same-length c = c .before .loop .inv .2
+same-length c = length-set (c .before .loop .room) (c .before .loop .next) 10 ∙ c .before .loop .inv .2
 
 returns : tie.Need-returns Inv-loop μ-loop
-returns c = rw (take-all (c .before .loop .i) _ (c .loop-test .left)) at (c .before .loop .inv .1)
+returns c = ended-then _ (c .loop-test .left) (c .before .loop .inv .1)
 
 pub put-numbers-spec : {M : Type 1} → statement M
-put-numbers-spec = tie.close (tie.spec Inv-loop μ-loop loop-holds mul-put-number shared-slice-read-put-number put-number-requires add-i loop-less loop-again same-length returns)
+put-numbers-spec = tie.close (tie.spec Inv-loop μ-loop loop-holds mul-put-number shared-slice-read-put-number put-number-requires add-i loop-less loop-again slice-write-room add-result same-length returns)

@@ -1,36 +1,35 @@
--- "poss yes" is a line with the first n counts of the witness, all eight where n is above 8; "poss no" is a word.
+-- The line has the word of the verdict and the counts that it shows: those of the witness, or none.
 use mathlib.Core.Path.{sym}
+use Prim.Native.Nat.{_≤_}
 use native.Mathlib.Omega.{arith}
+use lib.ListN.{length, length-take}
 use lib.Seq.{length-take-le}
 use borrow.Author.Needs.{needs}
 use Rattle.cut.proofs.ValueLaws.{eight-counts}
-use Rattle.text.proofs.LineLaws.{poss-yes, poss-no, counts-front}
+use Rattle.text.proofs.LineLaws.{poss-line}
 use Rattle.text.proofs.put_poss.Statement.{statement}
 use Rattle.text.proofs.put_poss.Tie as tie
 
-stations-requires : tie.Need-stations-requires
-stations-requires c κs = search needs
+shown-requires : tie.Need-shown-requires
+shown-requires c κs = search needs
 
-slice-aggregate-put-line : tie.Need-slice-aggregate-put-line
-slice-aggregate-put-line c = search needs
+poss-word-requires : tie.Need-poss-word-requires
+poss-word-requires c κs = search needs
+
+-- no more counts are shown than there are
+enough : (c : tie.After-shown) → c .shown .result ≤ length (c .before .before .before .args .witness .counts)
+enough c =
+    let S = c .before .before .before in
+    omega (arith, eight-counts (S .args .witness) _ (S .good .1 .1 .1 .0))
 
 array-share-prefix-counts : tie.Need-array-share-prefix-counts
-array-share-prefix-counts c =
-    let S = c .before .before .before .before .before .before in
-    omega (arith, eight-counts (S .args .witness) _ (S .good .1 .1 .0))
+array-share-prefix-counts c = enough (c .before .before)
 
-slice-aggregate-put-line-2 : tie.Need-slice-aggregate-put-line-2
-slice-aggregate-put-line-2 c =
-    let S = c .before .before .before .before .before .before .before in
-    sym (length-take-le _ _ (omega (arith, eight-counts (S .args .witness) _ (S .good .1 .1 .0))))
+slice-aggregate-put-line : tie.Need-slice-aggregate-put-line
+slice-aggregate-put-line c = sym (length-take-le _ _ (enough (c .before .before .before)))
 
 put-line-requires : tie.Need-put-line-requires
-put-line-requires c κs =
-    let B = c .before .before .before in
-    let T = B .before .before in
-    let S = T .before .before in
-    rw (counts-front (S .args .witness) _ (eight-counts (S .args .witness) _ (S .good .1 .1 .0)) (B .stations .ensures))
-    (rw (poss-yes _ (T .if1 .taken)) at (S .pre))
+put-line-requires c κs = (omega arith, c .before .poss-word .ensures .0, simp length-take (omega arith))
 
 same-length : tie.Need-same-length
 same-length c = search needs
@@ -38,40 +37,11 @@ same-length c = search needs
 returns : tie.Need-returns
 returns c =
     let P = c .before .before in
-    let B = P .before .before .before .before in
-    let T = B .before .before in
-    let S = T .before .before in
-    rw (poss-yes _ (T .if1 .taken))
-    (rw (counts-front (S .args .witness) _ (eight-counts (S .args .witness) _ (S .good .1 .1 .0)) (B .stations .ensures)) at (P .put-line .ensures))
-
-slice-aggregate-put-word : tie.Need-slice-aggregate-put-word
-slice-aggregate-put-word c = search needs
-
-put-word-requires : tie.Need-put-word-requires
-put-word-requires c κs =
-    let E = c .before .before in
-    rw (poss-no _ (E .if1 .left)) at (E .before .before .pre)
-
-same-length-2 : tie.Need-same-length-2
-same-length-2 c = search needs
-
-returns-2 : tie.Need-returns-2
-returns-2 c =
-    let P = c .before .before in
-    rw (poss-no _ (P .before .before .before .if1 .left)) (P .put-word .ensures)
+    let H = P .before .before .before .before in
+    let S = H .before .before .before in
+    let e = eight-counts (S .args .witness) _ (S .good .1 .1 .1 .0) in
+    rw (poss-line (S .args .poss) (S .args .witness) _ _ e (H .shown .ensures .0) (P .before .before .poss-word .ensures .1)) at (P .put-line .ensures)
 
 pub put-poss-spec : {M : Type 1} → statement M
 put-poss-spec =
-    tie.close
-    (tie.spec
-    stations-requires
-    slice-aggregate-put-line
-    array-share-prefix-counts
-    slice-aggregate-put-line-2
-    put-line-requires
-    same-length
-    returns
-    slice-aggregate-put-word
-    put-word-requires
-    same-length-2
-    returns-2)
+    tie.close (tie.spec shown-requires poss-word-requires array-share-prefix-counts slice-aggregate-put-line put-line-requires same-length returns)

@@ -4,24 +4,23 @@ use Prim.Native.Nat.{_+_, _-_, _≤_}
 use native.Mathlib.Nat.{add-zero}
 use native.Mathlib.Omega.{arith}
 use lib.ListN.{length, take}
-use lib.Seq.{take-all}
 use borrow.Author.Needs.{needs}
 use Rattle.text.specs.Written.{Written}
-use Rattle.text.proofs.TextLaws.{written-none, written-length, word-more}
+use Rattle.text.proofs.TextLaws.{written-none, written-length, word-more, word-byte, word-whole}
 use Rattle.text.proofs.put_word.Statement.{statement}
 use Rattle.text.proofs.put_word.Tie as tie
 
 abbrev Inv-loop : tie.InvT-loop
-Inv-loop room₀ at word i₀ room i = (i ≤ length word) × Written (take i word) room₀ at (at + i) room × (length room ≡ length room₀)
+Inv-loop room₀ at bytes n i₀ room i = (i ≤ n) × Written (take i bytes) room₀ at (at + i) room × (length room ≡ length room₀)
 
 abbrev μ-loop : tie.MeasureT-loop
-μ-loop room₀ at word i₀ room i = length word - i
+μ-loop room₀ at bytes n i₀ room i = n - i
 
 loop-holds : tie.Need-loop-holds Inv-loop μ-loop
 loop-holds c = (omega arith, rw add-zero (written-none _ _), refl)
 
-shared-slice-read-room : tie.Need-shared-slice-read-room Inv-loop μ-loop
-shared-slice-read-room c = search needs
+array-read-room : tie.Need-array-read-room Inv-loop μ-loop
+array-read-room c = omega (arith, c .before .before .before .pre .0 .most)
 
 add-room : tie.Need-add-room Inv-loop μ-loop
 add-room c = search needs
@@ -37,7 +36,8 @@ loop-less c = search needs
 
 loop-again : tie.Need-loop-again Inv-loop μ-loop
 loop-again c =
-    let w = word-more _ (c .before .loop-test .taken) (c .before .before .loop .inv .1) in
+    let S = c .before .before .before in
+    let w = word-more _ (word-byte (S .args .word) (S .pre .0) (c .loop-test .taken)) (c .before .loop .inv .1) in
     (omega arith, w, written-length w)
 
 add-result : tie.Need-add-result Inv-loop μ-loop
@@ -47,7 +47,7 @@ same-length : tie.Need-same-length Inv-loop μ-loop
 same-length c = c .before .loop .inv .2
 
 returns : tie.Need-returns Inv-loop μ-loop
-returns c = rw (take-all _ _ (c .loop-test .left)) at (c .before .loop .inv .1)
+returns c = word-whole _ (c .before .loop .inv .0) (c .loop-test .left) (c .before .loop .inv .1)
 
 pub put-word-spec : {M : Type 1} → statement M
 put-word-spec =
@@ -56,7 +56,7 @@ put-word-spec =
     Inv-loop
     μ-loop
     loop-holds
-    shared-slice-read-room
+    array-read-room
     add-room
     slice-write-room
     add-i
