@@ -2,7 +2,7 @@
 // A recording is handed in as its full cut.
 ghost use mathlib.Core.Path.{_≡_};
 ghost use Prim.Native.Nat.{_<_, min};
-ghost use Rattle.cut.specs.Value.{mostAt, under, isFull, isCut, withCount, forwardOf, backOf, boxOf, rankOf};
+ghost use Rattle.cut.specs.Value.{mostAt, under, isFull, isCut, withCount, forwardOf, backOf, boxOf, rankOf, eventsOf};
 
 // One event number for each station; counts beyond n are 0.
 pub struct Cut {
@@ -203,4 +203,22 @@ fn wide(x: u16) -> usize
     ensures { λ r. ⌜ (r ≡ x) × (r < 65536) ⌝ }
 {
     x as usize
+}
+
+// T, the events of the recording: the sum of the counts of the stations 1 to n; 0 where there is no such recording.
+pub fn events(full: Cut) -> usize
+    ensures { λ r. ⌜ r ≡ eventsOf full ⌝ }
+{
+    if !is_full(full) {
+        return 0;
+    }
+    let n = full.n as usize;
+    let counts = full.counts;
+    let mut t: usize = 0;
+    let mut q: usize = 0;
+    while q < n {
+        t += wide(counts[q]);
+        q += 1;
+    }
+    t
 }
