@@ -1,5 +1,8 @@
 // Checks and decodes the largest recording (8 stations of 255 events, 22,461 bytes): the proved library beside a plain C loop that does the same,
 // in one run. Prints the time of each for one recording, and the ratio.
+// The proved library is asked to judge a job: a good condition (all 0: Together, no station asked) in front of the recording. Its box is 2 to the power 64,
+// so the job is refused with 10; but that comes behind the whole recording, which is checked and decoded into tables before. What is timed is thus check and
+// decode, the reading of the condition's 38 bytes, and the clearing of the tables' rooms, which are the library's own.
 #include <stdbool.h>
 #include <stddef.h>
 #include <stdint.h>
@@ -8,10 +11,10 @@
 #include <string.h>
 #include <time.h>
 
-uint8_t filebramble_check(const uint8_t *s, size_t len);
-uint8_t filebramble_decode(const uint8_t *s, size_t len, uint16_t *stamps, size_t stamps_len, uint16_t *levels, size_t levels_len);
+// 0 if refused, else another number.
+uint8_t filebramble_judge(const uint8_t *job, size_t len, uint8_t *marks, size_t marks_len, uint8_t *path, size_t path_len);
 
-enum { N = 8, M = 255, TABLE = 8 * 8 * M, MAX = 22461 };
+enum { N = 8, M = 255, TABLE = 8 * 8 * M, CONDITION = 38, MAX = 22461, BOX = 65536, ROOM = 8 * M };
 
 // --- the plain C loop -------------------------------------------------------
 
@@ -103,27 +106,26 @@ static double now(void) {
 }
 
 int main(void) {
-    static uint8_t s[MAX];
-    static uint16_t stamps[TABLE], levels[8 * M];
+    static uint8_t job[CONDITION + MAX], marks[BOX], path[ROOM];
+    // The condition is a good one: with one station and no event the job is judged.
+    job[CONDITION] = 0x10;
+    bool good = filebramble_judge(job, CONDITION + 3, marks, BOX, path, ROOM);
+    job[CONDITION] = 0;
+    uint8_t *s = job + CONDITION;
     size_t len = largest(s);
     enum { ROUNDS = 200, TRIES = 15 };
-    double best_c = 1e9, best = 1e9, best_check = 1e9;
+    double best_c = 1e9, best = 1e9;
     unsigned sum = 0;
     for (int t = 0; t < TRIES; t++) {
         double a = now();
         for (int i = 0; i < ROUNDS; i++) sum += c_check(s, len);
         double b = now();
-        for (int i = 0; i < ROUNDS; i++) sum += filebramble_decode(s, len, stamps, TABLE, levels, 8 * M);
+        for (int i = 0; i < ROUNDS; i++) sum += filebramble_judge(job, CONDITION + len, marks, BOX, path, ROOM);
         double c = now();
-        for (int i = 0; i < ROUNDS; i++) sum += filebramble_check(s, len);
-        double d = now();
-        if (d - c < best_check) best_check = d - c;
         if (b - a < best_c) best_c = b - a;
         if (c - b < best) best = c - b;
     }
-    bool same = !memcmp(stamps, c_stamps, sizeof stamps) && !memcmp(levels, c_levels, sizeof levels);
-    printf("bytes %zu, replies %s, tables %s\n", len, sum ? "DIFFER" : "accepted", same ? "equal" : "DIFFER");
-    printf("plain C, check and decode   %8.1f us\nproved, check and decode    %8.1f us\nproved, check alone         %8.1f us\nratio                       %8.2f\n",
-           best_c / ROUNDS * 1e6, best / ROUNDS * 1e6, best_check / ROUNDS * 1e6, best / best_c);
-    return sum || !same;
+    printf("bytes %zu, condition %s, replies %s\n", len, good ? "good" : "REFUSED", sum ? "DIFFER" : "as they should be");
+    printf("plain C, check and decode   %8.1f us\nproved, check and decode    %8.1f us\nratio                       %8.2f\n", best_c / ROUNDS * 1e6, best / ROUNDS * 1e6, best / best_c);
+    return sum || !good;
 }

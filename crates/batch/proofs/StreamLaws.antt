@@ -9,7 +9,7 @@ use lib.ListN.{length, take, set, length-append}
 use lib.Seq.{take-all, take-length}
 use Rattle.io.specs.Counts.{Counts}
 use Rattle.text.specs.Text.{newline, Printed}
-use Rattle.engine.specs.Answer.{textOf}
+use Rattle.reply.specs.Answer.{textOf}
 use Rattle.fits.proofs.RoomLaws.{counts-within, place-behind, byte-behind, length-textIn}
 use Rattle.fits.proofs.TextFits.{text-fits}
 

@@ -4,7 +4,7 @@ ghost use mathlib.Core.List.{_++_};
 ghost use Prim.Native.Nat.{_+_, _*_, _≤_, min};
 ghost use lib.ListN.{length, take};
 ghost use Rattle.text.specs.Text.{newline};
-ghost use Rattle.engine.specs.Answer.{textOf};
+ghost use Rattle.reply.specs.Answer.{textOf};
 ghost use Rattle.io.specs.Counts.{Counts};
 
 // The longest job that two bytes can announce.
@@ -59,7 +59,7 @@ fn printed(job: &[u8], room: &mut [u8]) -> usize
     ensures { λ r. ⌜ take r (now (room .exit)) ≡ textOf (take 22500 (now (job .entry))) ++ newline ⌝ }
     ensures { λ r. ⌜ Counts r (now (room .exit)) ⌝ }
 {
-    let k = engine::answer(&job[..looked_at(job.len())], room);
+    let k = reply::answer(&job[..looked_at(job.len())], room);
     room[k] = b'\n';
     k + 1
 }

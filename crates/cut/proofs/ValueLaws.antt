@@ -1,5 +1,5 @@
 -- Laws of a cut as a value. In order: the counts under m; a step that is found; the code's steps; steps on lists;
--- the eight counts; weights, the box and its ceiling; the rank. Assumes nothing.
+-- the eight counts; weights, the box and its ceiling; the rank; the events of the first stations. Assumes nothing.
 use mathlib.Core.Path.{_≡_, refl, sym, ap, ap₂, _∙_}
 use mathlib.Core.Bool.{Bool, true, false, _&&_, cond, false≢true}
 use mathlib.Core.Logic.{_↔_, ⊎-elim}
@@ -20,13 +20,13 @@ use denote.Struct.Declared.{row}
 use borrow.Kind.Array.{eInt, good-length}
 use borrow.Author.Tests.{leb-true, lt-ltb, le-ltb, le-leb}
 use Rattle.cuts.specs.Below.{sumTo, productTo}
-use Rattle.cuts.specs.Cut.{at, forward, back, Within}
+use Rattle.cuts.specs.Cut.{at, forward, back, total, Within}
 use Rattle.cuts.specs.Rank.{weight, rank, box}
 use Rattle.cut.specs.Value.{countsOf, mostAt, under, isCut, isStation, moved, withCount, nextCount, forwardOf, backOf}
 use Rattle.cut.specs.declared.Cut.{Cut}
 use Rattle.cut.specs.declared.Moved.{Moved}
 use Rattle.cut.proofs.Cut.{the-type}
-use Rattle.cuts.proofs.BelowLaws.{every-true, true-every, sumTo-same, sumTo-more, productTo-same, productTo-more}
+use Rattle.cuts.proofs.BelowLaws.{every-true, true-every, sumTo-same, sumTo-more, sumTo-first, productTo-same, productTo-more}
 
 pub mostAt-in : (m : Cut) (p : ℕ) → p < m .n → mostAt m p ≡ at (m .counts) p
 unfolding mostAt
@@ -196,3 +196,10 @@ rankTo-more m c p = sumTo-more p _
 pub rank-take : (m c : List ℕ) (n : ℕ) → n ≤ length m → rank (take n m) (take n c) ≡ rankTo m c n
 unfolding rank rankTo
 rank-take m c n h = rw (length-take-le n m h) (sumTo-same n _ _ (λ q k. ap₂ _*_ (getD-take n c q 0 k) (weight-take m n q (omega arith))))
+
+-- the events of the first n stations
+pub total-take : (n : ℕ) (l : List ℕ) → n ≤ length l → total (take n l) ≡ sumTo n (at l)
+unfolding sumTo
+total-take zero l h = refl
+total-take (suc n) [] h = absurd (not-suc-le-zero h)
+total-take (suc n) (x ∷ l) h = ap (λ (s : ℕ). x + s) (total-take n l (le-of-suc-le-suc h)) ∙ sym (sumTo-first n (at (x ∷ l)))

@@ -1,5 +1,5 @@
 -- The cut as a value is the law's: specs/Value.antt read in the law's words, and tied to the cuts, steps and ranks of specs/Cut.antt and specs/Rank.antt.
--- In order: full cuts and the cuts of a recording; where a step is found; what it hands back; the box; the rank; that two replies are equal.
+-- In order: full cuts and the cuts of a recording; where a step is found; what it hands back; the box; the rank; that two replies are equal; T.
 -- Assumes nothing.
 use mathlib.Core.Path.{_≡_, refl, sym, ap, _∙_}
 use mathlib.Core.Bool.{Bool, true, false, _&&_, not}
@@ -12,16 +12,17 @@ use lib.Dec.{leb, ltb, eqb}
 use lib.ListN.{length, set, length-set}
 use lib.Seq.{take-set-lt, getD-set-other, getD-set-same, set-set, set-getD}
 use borrow.Author.Tests.{ltb-true, leb-true, eqb-true, lt-ltb, le-leb, eq-eqb}
-use Rattle.cuts.specs.Cut.{at, forward, back, Within}
+use Rattle.cuts.specs.Below.{sumTo}
+use Rattle.cuts.specs.Cut.{at, forward, back, total, Within}
 use Rattle.cuts.specs.Rank.{weight, rank, box}
-use Rattle.cut.specs.Value.{mostAt, under, isFull, isCut, isStation, FullCut, CutOf, countsOf, moved, withCount, forwardOf, backOf, boxOf, rankOf}
+use Rattle.cut.specs.Value.{mostAt, under, isFull, isCut, isStation, FullCut, CutOf, countsOf, moved, withCount, forwardOf, backOf, boxOf, rankOf, eventsOf}
 use Rattle.cut.specs.declared.Cut.{Cut}
 use Rattle.cut.specs.declared.Moved.{Moved}
 use Rattle.cut.specs.declared.Ranked.{Ranked}
 use Rattle.cuts.proofs.BelowLaws.{and-true}
 use Rattle.cut.proofs.ValueLaws.{mostAt-in, mostAt-beyond, under-at, found-moved}
 use Rattle.cuts.proofs.ReplyLaws.{refuted, answered-true, answered-false, replies-equal}
-use Rattle.cut.proofs.ValueLaws.{forwardOf-some, backOf-some, at-countsOf, at-set-le, set-forward, set-back, within-take, box-take, rankTo, rank-take}
+use Rattle.cut.proofs.ValueLaws.{forwardOf-some, backOf-some, at-countsOf, at-set-le, set-forward, set-back, within-take, box-take, rankTo, rank-take, total-take}
 
 -- under in the law's words: no count above its m, none beyond n that is not 0
 pub record Under (m c : Cut) : Type 0 where
@@ -246,3 +247,19 @@ box-unique m r r′ = replies-equal
 
 pub rank-unique : (m c : Cut) (r r′ : Ranked) → r ≡ rankOf m c → r′ ≡ rankOf m c → r ≡ r′
 rank-unique m c r r′ = replies-equal
+
+-- T of a full cut
+pub eventsOf-full : (m : Cut) → FullCut m → eventsOf m ≡ total (countsOf m)
+unfolding eventsOf
+eventsOf-full m f = rw (isFull-is m .1 f) refl
+
+pub eventsOf-none : (m : Cut) → (FullCut m → ⊥) → eventsOf m ≡ 0
+unfolding eventsOf
+eventsOf-none m h = rw (refuted (isFull m) (λ e. h (isFull-is m .0 e))) refl
+
+-- T of eight counts is the sum that the code's loop makes
+pub eventsOf-loop : (m : Cut) → FullCut m → length (m .counts) ≡ 8 → eventsOf m ≡ sumTo (m .n) (at (m .counts))
+eventsOf-loop m f l = eventsOf-full m f ∙ total-take (m .n) (m .counts) (omega (arith, f .most-eight))
+
+pub events-unique : (m : Cut) (r r′ : ℕ) → r ≡ eventsOf m → r′ ≡ eventsOf m → r ≡ r′
+events-unique m r r′ = replies-equal

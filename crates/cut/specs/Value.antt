@@ -1,5 +1,5 @@
 -- The cut as a value of the code: document 01, "A cut is a value of eight counts with the number of stations; counts beyond n are 0".
--- In order: full cuts and the cuts of their recording, as tests and in the law's words; the two steps; the box with its ceiling; the rank.
+-- In order: full cuts and the cuts of their recording, as tests and in the law's words; the two steps; the box with its ceiling; the rank; T.
 -- A recording is handed in as its full cut m: its n and the events of each station.
 use mathlib.Core.Path.{_≡_}
 use mathlib.Core.Bool.{Bool, true, false, _&&_, cond}
@@ -8,7 +8,7 @@ use Prim.Native.Nat.{ℕ, _+_, _-_, _≤_, _<_, min}
 use lib.Dec.{leb, ltb, eqb}
 use lib.ListN.{take, set}
 use Rattle.cuts.specs.Below.{every}
-use Rattle.cuts.specs.Cut.{at}
+use Rattle.cuts.specs.Cut.{at, total}
 use Rattle.cuts.specs.Rank.{rank, box}
 use Rattle.cut.specs.declared.Cut.{Cut}
 use Rattle.cut.specs.declared.Moved.{Moved}
@@ -86,3 +86,7 @@ boxOf m = cond (isFull m) (min (box (countsOf m)) 65537) 0
 -- the rank of a cut of the recording, where the box is within its limit
 unfoldable pub rankOf : Cut → Cut → Ranked
 rankOf m c = cond (isCut m c && leb (box (countsOf m)) 65536) (Ranked.At (rank (countsOf m) (countsOf c))) Ranked.Nothing
+
+-- T, the events of the recording; 0 where m is the full cut of no recording
+unfoldable pub eventsOf : Cut → ℕ
+eventsOf m = cond (isFull m) (total (countsOf m)) 0

@@ -7,7 +7,7 @@ ghost use lib.Dec.{ltb};
 ghost use Rattle.cuts.specs.Below.{sumTo};
 ghost use Rattle.cuts.specs.Cut.{at};
 ghost use Rattle.cuts.specs.Rank.{weight};
-ghost use Rattle.cut.specs.Value.{mostAt, under, isFull, isCut, isStation, withCount, nextCount, moved, forwardOf, backOf, boxOf, rankOf};
+ghost use Rattle.cut.specs.Value.{mostAt, under, isFull, isCut, isStation, withCount, nextCount, moved, forwardOf, backOf, boxOf, rankOf, eventsOf};
 
 // Above every count: none.
 const NO_COUNT: usize = 65536;
@@ -229,4 +229,22 @@ fn wide(x: u16) -> usize
     ensures { λ r. ⌜ (r ≡ x) × (r < 65536) ⌝ }
 {
     x as usize
+}
+
+// T, the events of the recording: the sum of the counts of the stations 1 to n; 0 where there is no such recording.
+pub fn events(full: Cut) -> usize
+    ensures { λ r. ⌜ r ≡ eventsOf full ⌝ }
+{
+    if !is_full(full) {
+        return 0;
+    }
+    let n = full.n as usize;
+    let counts = full.counts;
+    let mut t: usize = 0;
+    let mut q: usize = 0;
+    while q < n {
+        t += wide(counts[q]);
+        q += 1;
+    }
+    t
 }

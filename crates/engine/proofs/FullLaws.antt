@@ -11,10 +11,10 @@ use borrow.Author.Tests.{le-leb}
 use Rattle.cuts.specs.Below.{tab}
 use Rattle.cuts.specs.Cut.{at, total}
 use Rattle.cuts.specs.Rank.{box}
-use Rattle.cut.specs.Value.{countsOf, FullCut, boxOf}
+use Rattle.cut.specs.Value.{countsOf, FullCut, boxOf, eventsOf}
 use Rattle.cut.specs.declared.Cut.{Cut}
 use Rattle.cuts.proofs.BelowLaws.{length-tab, getD-tab, sumTo-same}
-use Rattle.cut.proofs.ValueRight.{boxOf-full}
+use Rattle.cut.proofs.ValueRight.{boxOf-full, eventsOf-full, eventsOf-loop}
 use Rattle.recording.specs.Recording as recorded
 use Rattle.recording.specs.Form.{recordingOf, lead8, width8, nAt, mAt, firstAt}
 use Rattle.recording.specs.Check.{checkedOf}
@@ -25,7 +25,7 @@ use Rattle.recording.proofs.DecodeLaws.{eventsAt-in, eventsAt-lt}
 use Rattle.recording.proofs.DecodeRight.{full-cut-counts, full-cut-full}
 use Rattle.recording.proofs.FormLaws.{stations-read, count-read}
 use Rattle.recording.proofs.PlaceLaws.{firstAt-le}
-use Rattle.marks.proofs.RowLaws.{total-take}
+use Rattle.recording.proofs.SumLaws.{sumTo-most}
 use Rattle.engine.specs.Prepare.{Short, firstOf}
 
 module _ (s : List ℕ) (full : Cut) (accepts : checkedOf lead8 width8 s ≡ Checked.Accepted) (full-is : full ≡ fullOf lead8 width8 s) where
@@ -79,10 +79,12 @@ module _ (s : List ℕ) (full : Cut) (accepts : checkedOf lead8 width8 s ≡ Che
   unfolding firstOf firstAt
   first-full p h = sumTo-same p _ _ (λ q l. count-full q (omega arith))
 
-  -- T
-  pub total-full : firstOf (full .counts) (full .n) ≡ total m
-  unfolding firstOf
-  total-full = sym (total-take (full .n) (full .counts) (omega (arith, eight-full, n-full, n-most))) ∙ ap total counts-full
+  -- T, and its bound
+  pub total-full : eventsOf full ≡ total m
+  total-full = eventsOf-full full full-full ∙ ap total counts-full
+
+  pub total-le : total m ≤ 4088
+  total-le = omega (arith, total-full, eventsOf-loop full full-full eight-full, sumTo-most (at (full .counts)) 511 (full .n) (short-full .few), n-full, n-most)
 
   -- the box, with its ceiling
   pub box-full : boxOf full ≡ min (box m) 65537

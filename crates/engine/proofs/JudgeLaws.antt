@@ -10,7 +10,7 @@ use lib.ListN.{length, take, drop, replicate, length-drop, length-replicate}
 use lib.Seq.{take-all}
 use Rattle.cuts.specs.Cut.{at, total}
 use Rattle.cuts.specs.Rank.{box}
-use Rattle.cut.specs.Value.{boxOf}
+use Rattle.cut.specs.Value.{boxOf, eventsOf}
 use Rattle.cut.specs.declared.Cut.{Cut}
 use Rattle.recording.specs.Recording as recorded
 use Rattle.recording.specs.Form.{lead8, width8}
@@ -26,7 +26,6 @@ use Rattle.condition.specs.declared.Reading.{Reading}
 use Rattle.condition.proofs.ConditionRight.{read-refused, refused-0}
 use Rattle.condition.proofs.FieldLaws.{readOf-good}
 use Rattle.engine.specs.Job.{partOf, C, m, checkedJob, roomTests, refusedBy, wholly, Judged, refused, accepted}
-use Rattle.engine.specs.Prepare.{firstOf}
 use Rattle.engine.specs.Computed.{Settled, Computed}
 use Rattle.engine.specs.declared.Reply.{Reply}
 use Rattle.engine.proofs.FullLaws.{stations-full, total-full, box-full, stamps-there, levels-there}
@@ -89,7 +88,7 @@ module _ (job marks path : List ℕ) (read : Reading) (read-is : read ≡ readOf
       by-refusal job marks path x r g (rw (unrefused job read read-is none, atWhole-0, v) refl)
 
   module _ (told : (x : Refusal) → d ≡ Decoded.Refused x → ⊥) (full : Cut) (full-is : full ≡ fullOf lead8 width8 s) (k : ℕ)
-      (k-is : k ≡ faultOf (roomTests (read .condition) (full .n) (boxOf full) (firstOf (full .counts) (full .n)) (length marks) (length path))) where
+      (k-is : k ≡ faultOf (roomTests (read .condition) (full .n) (boxOf full) (eventsOf full) (length marks) (length path))) where
     ok : checkedOf lead8 width8 s ≡ Checked.Accepted
     ok = accepts s stamps levels d stamps′ levels′ decodes told
 

@@ -1,5 +1,3 @@
-pub mod AnswerLaws
-pub mod AnswerRight
 pub mod FullLaws
 pub mod JudgeLaws
 pub mod JudgeRight

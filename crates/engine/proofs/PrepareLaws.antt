@@ -112,10 +112,6 @@ pub rowsTo-le : (m : List ℕ) → ((q : ℕ) → at m q ≤ 511) → (p : ℕ) 
 unfolding rowsTo
 rowsTo-le m s p = sumTo-most _ 512 p (λ q. omega (arith, s q))
 
-pub firstOf-le : (m : List ℕ) → ((q : ℕ) → at m q ≤ 511) → (p : ℕ) → firstOf m p ≤ 511 * p
-unfolding firstOf
-firstOf-le m s p = sumTo-most _ 511 p s
-
 -- a table made of stretches of k numbers a row, one row for each event and one for the start
 module _ (m : List ℕ) (k : ℕ) (f : ℕ → ℕ → ℕ) where
   abbrev pub size : ℕ → ℕ

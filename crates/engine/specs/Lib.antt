@@ -1,4 +1,3 @@
 pub mod Job
 pub mod Prepare
-pub mod Answer
 pub mod Computed

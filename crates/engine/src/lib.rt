@@ -1,8 +1,6 @@
-// The reply to a job: both verdicts with their evidence, and its printed text.
+// The reply to a job: both verdicts with their evidence.
 ghost use mathlib.Core.Path.{_≡_};
-ghost use Rattle.text.specs.Text.{Printed};
 ghost use Rattle.engine.specs.Job.{Judged, refusedBy, wholly};
-ghost use Rattle.engine.specs.Answer.{textOf};
 use cut::Cut;
 use recording::Checked;
 use recording::Decoded;
@@ -44,21 +42,6 @@ pub fn judge(job: &[u8], marks: &mut [u8], path: &mut [u8]) -> Reply
         return refused(whole(fault));
     }
     verdict::verdicts(c, s, full, &stamps, &levels, marks, path)
-}
-
-// The printed text of the reply to a job, into the front of the room; its length, 0 if the room is too short.
-pub fn answer(job: &[u8], room: &mut [u8]) -> usize
-    ensures { λ r. ⌜ Printed (textOf (now (job .entry))) (now (room .entry)) r (now (room .exit)) ⌝ }
-{
-    let mut marks = [0u8; 65536];
-    let mut path = [0u8; 4088];
-    let r = judge(job, &mut marks, &mut path);
-    let a = r.answer;
-    if let Checked::Refused(x) = a {
-        return text::refused(x.number, x.station, x.event, room);
-    }
-    let t = rooms::events(recording::full_cut(&job[38..]));
-    text::verdicts(r.poss, r.witness, r.def, &path[..t], room)
 }
 
 // A refusal, and nothing beside it.

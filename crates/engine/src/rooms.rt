@@ -1,20 +1,16 @@
 // What a job's recording and condition ask of each other and of the rooms: 9, 10, 11, 12.
 ghost use mathlib.Core.Path.{_≡_};
 ghost use mathlib.Core.Bool.{_||_, not};
-ghost use Prim.Native.Nat.{_≤_};
 ghost use lib.Dec.{ltb};
-ghost use Rattle.cut.specs.Value.{boxOf};
+ghost use Rattle.cut.specs.Value.{boxOf, eventsOf};
 ghost use Rattle.recording.specs.Check.{faultOf};
 ghost use Rattle.engine.specs.Job.{noneAbove, roomTests};
-ghost use Rattle.engine.specs.Prepare.{Short, firstOf};
-use crate::needs;
 use condition::Condition;
 use cut::Cut;
 
 // The number of the first test that fails, 0 if none does.
 pub fn fault(c: Condition, full: Cut, marks: usize, path: usize) -> u8
-    requires { ⌜ Short full ⌝ }
-    ensures { λ r. ⌜ r ≡ faultOf (roomTests c (full .n) (boxOf full) (firstOf (full .counts) (full .n)) marks path) ⌝ }
+    ensures { λ r. ⌜ r ≡ faultOf (roomTests c (full .n) (boxOf full) (eventsOf full) marks path) ⌝ }
 {
     if !none_above(c, full.n) {
         return 9;
@@ -26,7 +22,7 @@ pub fn fault(c: Condition, full: Cut, marks: usize, path: usize) -> u8
     if marks < b {
         return 11;
     }
-    if path < events(full) {
+    if path < cut::events(full) {
         return 12;
     }
     0
@@ -56,20 +52,4 @@ fn unasked_or_below(asked: bool, p: usize, n: usize) -> bool
         return p < n;
     }
     true
-}
-
-// T.
-pub fn events(full: Cut) -> usize
-    requires { ⌜ Short full ⌝ }
-    ensures { λ r. ⌜ r ≡ firstOf (full .counts) (full .n) ⌝ }
-{
-    let n = full.n as usize;
-    let counts = full.counts;
-    let mut t: usize = 0;
-    let mut p: usize = 0;
-    while p < n {
-        t += needs::wide(counts[p]);
-        p += 1;
-    }
-    t
 }

@@ -51,7 +51,7 @@ fn print_reply(job: &[u8], k: usize) {
         return;
     }
     let mut room = [0u8; TEXT];
-    let n = engine::answer(&job[0..k], &mut room);
+    let n = reply::answer(&job[0..k], &mut room);
     print(&room, n);
 }
 

@@ -1,35 +1,7 @@
-// The entries that the benchmark calls from C.
+// The entry that the benchmark calls from C.
 ghost use mathlib.Core.Path.{_≡_};
-ghost use Rattle.recording.specs.Form.{lead8, width8};
-ghost use Rattle.recording.specs.Check.{checkedOf};
-ghost use Rattle.exports.specs.Exports.{numberOf, Exported, verdictNumber, JudgeExported};
+ghost use Rattle.exports.specs.Exports.{verdictNumber, JudgeExported};
 use recording::Checked;
-use recording::Decoded;
-
-// The refusal number of a recording, 0 if it is accepted.
-#[no_mangle]
-pub extern "C" fn filebramble_check(s: &[u8]) -> u8
-    ensures { λ r. ⌜ r ≡ numberOf (checkedOf lead8 width8 (now (s .entry))) ⌝ }
-{
-    let v = recording::check(s);
-    if let Checked::Refused(x) = v {
-        return x.number;
-    }
-    0
-}
-
-// The checks and the tables of stamps and levels, into the fronts of the rooms: the refusal number, 0 where that is done, 255 where a room is too short.
-#[no_mangle]
-pub extern "C" fn filebramble_decode(s: &[u8], stamps: &mut [u16], levels: &mut [u16]) -> u8
-    ensures { λ r. ⌜ Exported (now (s .entry)) (now (stamps .entry)) (now (levels .entry)) r (now (stamps .exit)) (now (levels .exit)) ⌝ }
-{
-    let v = recording::decode(s, stamps, levels);
-    match v {
-        Decoded::Done => 0,
-        Decoded::Short => 255,
-        Decoded::Refused(x) => x.number,
-    }
-}
 
 // The verdicts of a job, with its marks and path in the fronts of the rooms: 0 if it is refused, else 1, and 2 more if Poss is yes, 4 more if Def is.
 #[no_mangle]

@@ -29,7 +29,7 @@ use Rattle.text.specs.Text.{decimalTo, numbers, refusedText, verdictText}
 use Rattle.text.proofs.LineLaws.{length-refused}
 use Rattle.text.proofs.TextRight.{text-bound}
 use Rattle.engine.specs.Job.{partOf, m, L, checkedJob}
-use Rattle.engine.specs.Answer.{marksRoom, pathRoom, possLine, defLine, textBy, textOf}
+use Rattle.reply.specs.Answer.{marksRoom, pathRoom, possLine, defLine, textBy, textOf}
 use Rattle.engine.specs.Computed.{given, evidence}
 use Rattle.engine.proofs.JudgeRight.{recording-accepted}
 

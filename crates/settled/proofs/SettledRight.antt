@@ -28,7 +28,7 @@ use Rattle.recording.specs.declared.Checked.{Checked}
 use Rattle.condition.specs.Condition.{boundOf, between, lies, sumAsked, inside, holdsBy, holdsOf, raisedOf, kindAt, kAt, lowAt, highAt, askedAt, windowLow, windowHigh, windowOk, conditionOk, kindOf, windowOf, conditionOf, refusedOf}
 use Rattle.text.specs.Text.{decimalTo, numbers, possText, defText}
 use Rattle.engine.specs.Job.{partOf, noneAbove, roomTests, C, m, L, checkedJob, possIn, Judged, refused, accepted}
-use Rattle.engine.specs.Answer.{marksRoom, pathRoom, possLine, defLine, textOf}
+use Rattle.reply.specs.Answer.{marksRoom, pathRoom, possLine, defLine, textOf}
 use Rattle.engine.specs.Computed.{given, evidence}
 use Rattle.engine.proofs.JudgeRight.{computed-verdicts, judged-unique}
 use Rattle.engine.proofs.RoomLaws.{room-0}

@@ -13,7 +13,7 @@ use Rattle.recording.specs.Check.{refusal}
 use Rattle.recording.specs.declared.Checked.{Checked}
 use Rattle.text.specs.Text.{refusedText, possText, defText}
 use Rattle.engine.specs.Job.{Judged, noCut}
-use Rattle.engine.specs.Answer.{textOf}
+use Rattle.reply.specs.Answer.{textOf}
 use Rattle.engine.specs.Computed.{given, evidence}
 use Rattle.engine.specs.declared.Reply.{Reply}
 

@@ -1,7 +1,7 @@
 // Reads a job on standard input and prints the reply: both verdicts with their evidence, or the refusal.
 ghost use mathlib.Core.Path.{_≡_};
 ghost use lib.ListN.{length, take};
-ghost use Rattle.engine.specs.Answer.{textOf};
+ghost use Rattle.reply.specs.Answer.{textOf};
 ghost use Rattle.io.specs.Counts.{Counts};
 
 // "at most 22,500 bytes of it (one more than the largest job has)"
@@ -24,5 +24,5 @@ fn printed(job: &[u8], room: &mut [u8]) -> usize
     ensures { λ r. ⌜ (r ≡ length (textOf (now (job .entry)))) × (take r (now (room .exit)) ≡ textOf (now (job .entry))) ⌝ }
     ensures { λ r. ⌜ Counts r (now (room .exit)) ⌝ }
 {
-    engine::answer(job, room)
+    reply::answer(job, room)
 }

@@ -1,8 +1,7 @@
 -- Each way out is one law: refused by the condition, by the recording, by the rooms; or the verdicts.
 use mathlib.Core.Path.{refl}
 use borrow.Author.Needs.{needs}
-use Rattle.engine.proofs.FullLaws.{short-full}
-use Rattle.engine.proofs.JudgeLaws.{part-is, not-third, refused-condition, job-long, refused-recording, accepts, refused-room, settled, judged}
+use Rattle.engine.proofs.JudgeLaws.{part-is, not-third, refused-condition, job-long, refused-recording, refused-room, settled, judged}
 use Rattle.engine.proofs.judge.Statement.{statement}
 use Rattle.engine.proofs.judge.Tie as tie
 
@@ -54,10 +53,7 @@ full-cut-requires : tie.Need-full-cut-requires
 full-cut-requires c κs = search needs
 
 fault-requires : tie.Need-fault-requires
-fault-requires c κs =
-    let M = c .before in
-    let D = M .before .before .before in
-    short-full _ _ (accepts _ _ _ _ _ _ (D .decode .ensures) (λ x e. not-third (rw e at (M .match .keys2)))) (c .full-cut .ensures)
+fault-requires c κs = search needs
 
 whole-requires-2 : tie.Need-whole-requires-2
 whole-requires-2 c κs = search needs

@@ -5,7 +5,7 @@ use native.Mathlib.Omega.{arith}
 use lib.ListN.{length}
 use denote.Ref.{now}
 use borrow.Author.Needs.{needs}
-use Rattle.engine.specs.Answer.{textOf}
+use Rattle.reply.specs.Answer.{textOf}
 use Rattle.fits.proofs.RoomLaws.{taken-whole}
 use Rattle.fits.proofs.TextFits.{text-fits}
 use Rattle.verdicts.proofs.printed.Statement.{statement}

@@ -13,7 +13,6 @@ use Rattle.cuts.specs.Rank.{box}
 use Rattle.recording.specs.Recording.{messages, stamps}
 use Rattle.recording.specs.Form.{lead8, width8}
 use Rattle.recording.specs.Check.{faultOf, recordTests, formTests, atWhole, orElse, checkedRecords, checkedOf}
-use Rattle.recording.specs.Decode.{fullOf}
 use Rattle.recording.specs.declared.Refusal.{Refusal}
 use Rattle.recording.specs.declared.Checked.{Checked}
 use Rattle.recording.proofs.CheckLaws.{no-fault, fault-le, atRecord-refused, atWhole-refused}
@@ -21,11 +20,10 @@ use Rattle.recording.proofs.CheckRight.{refused-first}
 use Rattle.condition.specs.Condition.{conditionOk, refusedOf}
 use Rattle.text.specs.Text.{Printed}
 use Rattle.text.proofs.TextRight.{printed-unique}
 use Rattle.engine.specs.Job.{partOf, noneAbove, roomTests, R, C, m, checkedJob}
-use Rattle.engine.specs.Answer.{marksRoom, pathRoom, textOf}
-use Rattle.engine.proofs.FullLaws.{short-full, total-full}
-use Rattle.engine.proofs.PrepareLaws.{firstOf-le}
+use Rattle.reply.specs.Answer.{marksRoom, pathRoom, textOf}
+use Rattle.engine.proofs.FullLaws.{total-le}
 use Rattle.engine.proofs.RoomLaws.{room-9, room-10, room-0}
 
 pub answer-unique : (job before after after′ : List ℕ) (r r′ : ℕ) → Printed (textOf job) before r after → Printed (textOf job) before r′ after′ → (r ≡ r′) × (after ≡ after′)
 answer-unique job before after after′ r r′ p q = printed-unique p q
@@ -71,20 +69,13 @@ module _ (job : List ℕ) where
       (λ a e. let (p, k, hp, hk, f, _) = refused-first (messages (R job)) (recordTests (messages (R job)) (stamps (R job))) x e in
       rw (ap (λ (y : Refusal). y .number) (atRecord-refused p k _ x f .1)) (record-number p k))
 
-  -- T of an accepted recording is within the program's room
-  path-room : checkedOf lead8 width8 (partOf job) ≡ Checked.Accepted → total (m job) ≤ 4088
-  path-room h =
-      let full = fullOf lead8 width8 (partOf job) in
-      let k = short-full (partOf job) full h refl in
-      omega (arith, total-full (partOf job) full h refl, firstOf-le (full .counts) (k .few) (full .n), k .n-most)
-
   room-number : checkedOf lead8 width8 (partOf job) ≡ Checked.Accepted → faultOf (roomTests (C job) (length (m job)) (box (m job)) (total (m job)) marksRoom pathRoom) ≤ 10
   room-number h = go (noneAbove (C job) (length (m job))) refl (decLe (box (m job)) 65536)
     where
       go : (a : Bool) → noneAbove (C job) (length (m job)) ≡ a → Dec (box (m job) ≤ 65536) → faultOf (roomTests (C job) (length (m job)) (box (m job)) (total (m job)) marksRoom pathRoom) ≤ 10
       go false e d = omega (arith, room-9 (C job) (length (m job)) (box (m job)) (total (m job)) marksRoom pathRoom e)
       go true e (no d) = omega (arith, room-10 (C job) (length (m job)) (box (m job)) (total (m job)) marksRoom pathRoom e (omega arith))
-      go true e (yes d) = omega (arith, room-0 (C job) (length (m job)) (box (m job)) (total (m job)) marksRoom pathRoom e d d (path-room h))
+      go true e (yes d) = omega (arith, room-0 (C job) (length (m job)) (box (m job)) (total (m job)) marksRoom pathRoom e d d (total-le (partOf job) _ h refl))
 
   pub never-short : (x : Refusal) → checkedJob job marksRoom pathRoom ≡ Checked.Refused x → x .number ≤ 10
   unfolding checkedJob
