@@ -21,7 +21,7 @@ use Rattle.cuts.proofs.BelowLaws.{and-true, every-true}
 use Rattle.cuts.proofs.ReplyLaws.{refuted}
 use Rattle.cut.proofs.ValueRight.{isFull-is, boxOf-full, boxOf-none}
 use Rattle.marks.specs.Flat.{rowThere, flat, fillable, filled, cutOfCounts, witnessOf, walkable, walked}
-use Rattle.marks.specs.Rows.{Ready, wayTo}
+use Rattle.marks.specs.Rows.{taskOf, Ready, wayTo}
 use Rattle.marks.proofs.SearchLaws.{tests-same, and-both}
 use Rattle.marks.proofs.BackLaws.{rank-full}
 
@@ -117,15 +117,19 @@ module _ (m : Cut) (bases : List ℕ) (least most : ℕ) (needs weights : List �
 
   -- a fillable box has all that its rows are filled from
   pub ready-of : (room : ℕ) → Fillable m bases needs weights room → length (m .counts) ≡ 8 → length bases ≡ 8
-      → Ready (record { full = m; bases = bases; least = least; most = most }) needs weights room
+      → Ready (taskOf m bases least most) needs weights room
   ready-of room f l k = record {
     full = f .full;
-    eight = l;
-    starts = k;
     limit = f .limit;
     fits = f .fits;
-    needed = λ p h. rowThere-has _ _ _ (row p h) .0;
-    weighed = λ p h. rowThere-has _ _ _ (row p h) .1;
+    rows = record {
+      some = f .full .some-station;
+      most = f .full .most-eight;
+      starts = k;
+      eight = l;
+      needed = λ p h. rowThere-has _ _ _ (row p h) .0;
+      weighed = λ p h. rowThere-has _ _ _ (row p h) .1;
+    };
   }
     where
       row : (p : ℕ) → p < m .n → rowThere (length needs) (length weights) (at bases p + at (m .counts) p) ≡ true

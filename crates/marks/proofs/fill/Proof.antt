@@ -61,7 +61,7 @@ fill-rows-requires c κs =
     )
 
 same-length : tie.Need-same-length
-same-length c = c .before .before .fill-rows .kept .1 .1 .1 .0
+same-length c = c .before .before .fill-rows .kept .1 .1 .1 .1 .1 .1 .0
 
 returns-5 : tie.Need-returns-5
 unfolding marksTo
