@@ -1,7 +1,7 @@
 -- What the code works with on its way through a box, row by row of station 1: the cuts of a row differ in their first count only, and follow in rank.
 -- Nothing here has to be believed: the contracts of the entries cite `Flat` alone.
 -- In order: cuts and strides; a step back; the other stations of a row; the rows of the tables; what a box is filled for, and its marks so far; a row, its
--- marks and what they are worked out from; the way back.
+-- marks and what they are worked out from; the way back; the size of the box.
 use mathlib.Core.Path.{_≡_}
 use mathlib.Core.Bool.{Bool, _&&_, _||_, cond}
 use mathlib.Core.List.{List, [], _∷_, _++_, map, reverse}
@@ -17,7 +17,7 @@ use Rattle.cut.specs.Value.{countsOf, FullCut}
 use Rattle.cut.specs.declared.Cut.{Cut}
 use Rattle.marks.specs.declared.Frame.{Frame}
 use Rattle.marks.specs.declared.Others.{Others}
-use Rattle.marks.specs.Flat.{rowMet, between, flat, plain}
+use Rattle.marks.specs.Flat.{rowMet, between, flat, settleable, plain}
 
 -- n stations with these counts, as a cut
 abbrev pub cutWith : ℕ → List ℕ → Cut
@@ -150,3 +150,7 @@ pub record RowReady (frame : Frame) (needs weights bases strides : List ℕ) (ro
 -- k station numbers back from the cut c, first step first
 unfoldable pub wayTo : List ℕ → List ℕ → ℕ → List ℕ → List ℕ
 wayTo full marks k c = map suc (reverse (walk (plain full) (λ d. at marks (rank full d)) k c))
+
+-- the size of a box that can be settled, else 0
+unfoldable pub sizeOf : Cut → List ℕ → ℕ → ℕ → ℕ → ℕ → ℕ
+sizeOf m bases cells rows marks path = cond (settleable m bases cells rows marks path) (box (countsOf m)) 0

@@ -1,19 +1,26 @@
-// The marks of a box from flat tables, and the witness and the path read off them.
+// The marks of a box from flat tables, and the verdicts, the witness and the path read off them.
 // A box is filled row by row of station 1: the cuts of a row differ in their first count only, and what the other stations need and add is worked out once a row.
 ghost use mathlib.Core.Path.{_≡_};
-ghost use mathlib.Core.Bool.{_&&_, cond};
+ghost use mathlib.Core.Bool.{_&&_, not, cond};
 ghost use mathlib.Core.List.{_++_};
 ghost use Prim.Native.Nat.{_+_, _-_, _≤_, _<_, min, max};
 ghost use lib.Dec.{ltb, eqb};
 ghost use lib.ListN.{length, take, drop, set, replicate};
 ghost use Rattle.cuts.specs.Below.{every, first};
 ghost use Rattle.cuts.specs.Cut.{at, back, total};
-ghost use Rattle.cuts.specs.Rank.{box, rank, unrank};
+ghost use Rattle.cuts.specs.Rank.{box, unrank};
 ghost use Rattle.cut.specs.Value.{countsOf, FullCut};
-ghost use Rattle.marks.specs.Flat.{rowMet, between, rowThere, fillable, filled, cutOfCounts, witnessOf, walkable, walked};
-ghost use Rattle.marks.specs.Rows.{cutWith, topAt, stridesOf, leadsBack, StepsBack, RowsThere, othersOf, taskOf, marksTo, Ready, cutMark, rowMarks, CutReady, RowReady, wayTo};
+ghost use Rattle.marks.specs.Flat.{rowMet, between, rowThere, cutOfCounts, noWitness, settledOf, witnessOf, avoided, walked, Settles};
+ghost use Rattle.marks.specs.Rows.{cutWith, topAt, stridesOf, leadsBack, StepsBack, RowsThere, othersOf, taskOf, marksTo, Ready, cutMark, rowMarks, CutReady, RowReady, sizeOf};
 use cut::Cut;
-use cut::Moved;
+
+// What is settled: whether the box could be, Poss with its witness (the start where Poss is no), and Def.
+pub struct Settled {
+    pub done: bool,
+    pub poss: bool,
+    pub witness: Cut,
+    pub def: bool,
+}
 
 // What the rows of a box have in common: the stations, the cuts of a row, where station 1's rows of the tables begin, and from where to where a sum satisfies.
 struct Frame {
@@ -30,8 +37,9 @@ struct Others {
     sum: usize,
 }
 
-// The marks of the box into the front of the room; whether the box is one that can be filled.
-pub fn fill(
+// The marks of the box into the front of their room, the verdicts read off them, and where Def is no the path into the front of its room.
+// Where the box is none that can be settled the rooms stay as they were.
+pub fn settle(
     full: Cut,
     bases: [usize; 8],
     least: usize,
@@ -39,80 +47,58 @@ pub fn fill(
     needs: &[u16],
     weights: &[u16],
     marks: &mut [u8],
-) -> bool
-    ensures { λ r. ⌜ (r ≡ fillable full bases least most (now (needs .entry)) (now (weights .entry)) (length (now (marks .entry)))) × (now (marks .exit) ≡ filled full bases least most (now (needs .entry)) (now (weights .entry)) (now (marks .entry))) ⌝ }
+    path: &mut [u8],
+) -> Settled
+    ensures { λ r. ⌜ Settles full bases least most (now (needs .entry)) (now (weights .entry)) (now (marks .entry)) (now (path .entry)) r (now (marks .exit)) (now (path .exit)) ⌝ }
+{
+    let size = size_of(
+        full,
+        bases,
+        needs.len(),
+        weights.len(),
+        marks.len(),
+        path.len(),
+    );
+    if size < 1 {
+        return no_witness(false, full.n, false);
+    }
+    fill(full, bases, least, most, needs, weights, marks, size);
+    let def = walk(full, marks, path, size);
+    read_off(full, marks, size, def)
+}
+
+// The size of a box that can be settled, else 0.
+fn size_of(
+    full: Cut,
+    bases: [usize; 8],
+    cells: usize,
+    rows: usize,
+    marks: usize,
+    path: usize,
+) -> usize
+    ensures { λ r. ⌜ r ≡ sizeOf full bases cells rows marks path ⌝ }
 {
     let size = cut::box_of(full);
     if size < 1 {
-        return false;
+        return 0;
     }
     if 65536 < size {
-        return false;
+        return 0;
     }
-    if marks.len() < size {
-        return false;
+    if marks < size {
+        return 0;
     }
-    if !covered(full, bases, needs.len(), weights.len()) {
-        return false;
+    if path < total_of(full) {
+        return 0;
     }
-    fill_rows(full, bases, least, most, needs, weights, marks, size);
-    true
-}
-
-// The cut of the lowest rank that is marked 1, or that there is none, and then the start.
-pub fn witness(full: Cut, marks: &[u8]) -> Moved
-    ensures { λ r. ⌜ r ≡ witnessOf full (now (marks .entry)) ⌝ }
-{
-    let none = Moved {
-        found: false,
-        cut: Cut {
-            counts: [0u16; 8],
-            n: full.n,
-        },
-    };
-    let size = cut::box_of(full);
-    if 65536 < size {
-        return none;
+    if !covered(full, bases, cells, rows) {
+        return 0;
     }
-    let r = first_one(marks, size);
-    if size <= r {
-        return none;
-    }
-    let cut = cut_of(full, r);
-    Moved {
-        found: true,
-        cut: cut,
-    }
-}
-
-// The way back from the full cut through marks of 3, as station numbers, into the front of the room; whether there is one and the room has it.
-pub fn walk(full: Cut, marks: &[u8], path: &mut [u8]) -> bool
-    ensures { λ r. ⌜ (r ≡ walkable full (now (marks .entry)) (length (now (path .entry)))) × (now (path .exit) ≡ walked full (now (marks .entry)) (now (path .entry))) ⌝ }
-{
-    let size = cut::box_of(full);
-    if size < 1 {
-        return false;
-    }
-    if 65536 < size {
-        return false;
-    }
-    if marks.len() < size {
-        return false;
-    }
-    let last = size - 1;
-    if marks[last] != 3 {
-        return false;
-    }
-    let total = total_of(full);
-    if path.len() < total {
-        return false;
-    }
-    walk_back(full, marks, path, last, total);
-    true
+    size
 }
 
 // All rows of the box.
-fn fill_rows(
+fn fill(
     full: Cut,
     bases: [usize; 8],
     least: usize,
@@ -138,8 +124,8 @@ fn fill_rows(
     let strides = strides_of(full);
     let mut counts = [0u16; 8];
     let mut j: usize = 0;
-    let mut r: usize = 0;
-    while r < size {
+    let mut first: usize = 0;
+    while first < size {
         lay_top(&events, n, j, &mut counts);
         fill_row(
             frame,
@@ -149,10 +135,10 @@ fn fill_rows(
             &strides,
             marks,
             &mut counts,
-            r,
+            first,
         );
         j += 1;
-        r += width;
+        first += width;
     }
 }
 
@@ -319,6 +305,54 @@ fn lay_top(events: &[u16], n: usize, j: usize, counts: &mut [u16])
     }
 }
 
+// The reply off the marks of a box, Def being known: the witness is the cut of the lowest rank that is marked 1.
+fn read_off(full: Cut, marks: &[u8], size: usize, def: bool) -> Settled
+    requires { ⌜ FullCut full × (size ≡ box (countsOf full)) × (size ≤ length (now marks)) ⌝ }
+    ensures { λ r. ⌜ r ≡ settledOf (full .n) (witnessOf full (now (marks .entry))) def ⌝ }
+{
+    let r = first_one(marks, size);
+    if size <= r {
+        return no_witness(true, full.n, def);
+    }
+    let cut = cut_of(full, r);
+    Settled {
+        done: true,
+        poss: true,
+        witness: cut,
+        def: def,
+    }
+}
+
+// The reply without a witness, the start in its place.
+fn no_witness(done: bool, n: u8, def: bool) -> Settled
+    ensures { λ r. ⌜ r ≡ noWitness done n def ⌝ }
+{
+    Settled {
+        done: done,
+        poss: false,
+        witness: Cut {
+            counts: [0u16; 8],
+            n: n,
+        },
+        def: def,
+    }
+}
+
+// The first of the first size ranks that is marked 1, or size.
+fn first_one(marks: &[u8], size: usize) -> usize
+    requires { ⌜ size ≤ length (now marks) ⌝ }
+    ensures { λ r. ⌜ r ≡ first (λ r. eqb (at (now (marks .entry)) r) 1) size ⌝ }
+{
+    let mut r: usize = 0;
+    while r < size {
+        if marks[r] == 1 {
+            return r;
+        }
+        r += 1;
+    }
+    size
+}
+
 // The cut of rank r.
 fn cut_of(full: Cut, r: usize) -> Cut
     requires { ⌜ FullCut full × (r < box (countsOf full)) ⌝ }
@@ -384,31 +418,19 @@ fn row_there(base: usize, e: usize, cells: usize, rows: usize) -> bool
     base + e < cells / 8
 }
 
-// The first of the first size ranks that is marked 1, or size.
-fn first_one(marks: &[u8], size: usize) -> usize
-    ensures { λ r. ⌜ r ≡ first (λ r. eqb (at (now (marks .entry)) r) 1) size ⌝ }
+// Whether the full cut is marked other than 3; where it is marked 3 the way back from it, as station numbers, into the front of the room.
+fn walk(full: Cut, marks: &[u8], path: &mut [u8], size: usize) -> bool
+    requires { ⌜ FullCut full × (box (countsOf full) ≤ 65536) × (size ≡ box (countsOf full)) × (size ≤ length (now marks)) × (total (countsOf full) ≤ length (now path)) ⌝ }
+    ensures { λ r. ⌜ (r ≡ not (avoided full (now (marks .entry)))) × (now (path .exit) ≡ walked full (now (marks .entry)) (now (path .entry))) ⌝ }
 {
-    let end = lower(marks.len(), size);
-    let mut r: usize = 0;
-    while r < end {
-        if marks[r] == 1 {
-            return r;
-        }
-        r += 1;
+    let mut r = size - 1;
+    if marks[r] != 3 {
+        return true;
     }
-    size
-}
-
-// The walk back from the full cut, whose rank is last, over all of its events.
-fn walk_back(full: Cut, marks: &[u8], path: &mut [u8], last: usize, events: usize)
-    requires { ⌜ FullCut full × (box (countsOf full) ≤ 65536) × (box (countsOf full) ≤ length (now marks)) × (last ≡ rank (countsOf full) (countsOf full)) × (events ≤ length (now path)) ⌝ }
-    ensures { λ _. ⌜ now (path .exit) ≡ wayTo (countsOf full) (now (marks .entry)) events (countsOf full) ++ drop events (now (path .entry)) ⌝ }
-{
     let n = full.n as usize;
     let strides = strides_of(full);
     let mut counts = full.counts;
-    let mut r = last;
-    let mut k = events;
+    let mut k = total_of(full);
     while 0 < k {
         let p = first_back(marks, &counts, &strides, r, n);
         k -= 1;
@@ -417,6 +439,7 @@ fn walk_back(full: Cut, marks: &[u8], path: &mut [u8], last: usize, events: usiz
         let next = count_back(counts, p);
         counts = next;
     }
+    false
 }
 
 // The rank after a step back of the station at place p, the same where there is no such station.
