@@ -1,5 +1,5 @@
 -- The verdicts read off the tables made of an accepted recording are the recording's. In order: the tables have every row; their lattice agrees with the
--- recording's; what is filled, found and walked. Assumes nothing.
+-- recording's; what is settled. Assumes nothing.
 use mathlib.Core.Path.{_≡_, refl, sym, ap, ap₂, _∙_}
 use mathlib.Core.Bool.{Bool, true, false, _||_, not}
 use mathlib.Core.Option.{Option, none, some}
@@ -15,7 +15,6 @@ use Rattle.cuts.specs.Rank.{box}
 use Rattle.cuts.specs.Computed.{table, possOf, defOf}
 use Rattle.cut.specs.Value.{countsOf}
 use Rattle.cut.specs.declared.Cut.{Cut}
-use Rattle.cut.specs.declared.Moved.{Moved}
 use Rattle.cuts.proofs.BelowLaws.{getD-tab, every-true, true-every}
 use Rattle.cuts.proofs.CutLaws.{within-at}
 use Rattle.cut.proofs.ValueRight.{isFull-is}
@@ -29,8 +28,9 @@ use Rattle.condition.specs.Condition.{windowAt}
 use Rattle.condition.specs.Weigh.{limitsOf}
 use Rattle.condition.specs.declared.Condition.{Condition}
 use Rattle.condition.specs.declared.Limits.{Limits}
-use Rattle.marks.specs.Flat.{flat, rowThere, fillable, filled, witnessOf, walkable, walked}
-use Rattle.marks.proofs.FlatRight.{Agreeing, table-same, witness-poss, walked-def, movedOf, laidIn, isPath}
+use Rattle.marks.specs.Flat.{flat, rowThere, filled, settleable, settledOf, witnessOf, avoided, walked, Settles}
+use Rattle.marks.specs.declared.Settled as marked
+use Rattle.marks.proofs.FlatRight.{Agreeing, table-same, witness-poss, walked-def, laidIn, isPath}
 use Rattle.engine.specs.Job.{noneAbove}
 use Rattle.engine.specs.Prepare.{Short, Shifts, rowsTo, firstOf, needsTo, weightsTo, stationNeed, stationWeight}
 use Rattle.engine.specs.Computed.{Settled, Computed, latticeOf, replyOf, pathAfter}
@@ -124,42 +124,42 @@ module _ (c : Condition) (s : List ℕ) (full : Cut) (stamps levels : List ℕ) 
       unasked : (p : ℕ) → full .n ≤ p → p < 8 → windowAt c p .asked ≡ false
       unasked = above-unasked c (full .n) (rw (stations-full s full (z .accepts) (z .full-is)) at (z .asked))
 
-  fillable-here : fillable full bases (l .least) (l .most) needs weights (length marks) ≡ true
-  unfolding fillable
-  fillable-here =
-      rw (isFull-is full .1 (full-full s full (z .accepts) (z .full-is)), counts, le-leb _ 65536 (z .limit), le-leb _ (length marks) (z .marks-fit), needs-long full short stamps d needs long needs-are, weights-long full short c starts levels d′ weights long′ weights-are)
+  ready : settleable full bases (length needs) (length weights) (length marks) (length path) ≡ true
+  unfolding settleable
+  ready =
+      rw (isFull-is full .1 (full-full s full (z .accepts) (z .full-is)), counts, le-leb _ 65536 (z .limit), le-leb _ (length marks) (z .marks-fit), le-leb _ (length path) (z .path-fit), needs-long full short stamps d needs long needs-are, weights-long full short c starts levels d′ weights long′ weights-are)
       (rows-there full short bases bases-are)
 
-  filled-here : filled full bases (l .least) (l .most) needs weights marks ≡ table (flat full bases (l .least) (l .most) needs weights) ++ drop (box (countsOf full)) marks
+  -- the marks afterwards
+  abbrev after : List ℕ
+  after = filled full bases (l .least) (l .most) needs weights marks
+
+  after-is : after ≡ table (latticeOf c s) ++ drop (box (recorded.countsOf R)) marks
   unfolding filled
-  filled-here = rw fillable-here refl
+  after-is = ap₂ (λ (t k : List ℕ). t ++ drop (box k) marks) (table-same _ (latticeOf c s) agreeing) counts
 
-  pub computed : (marks′ path′ : List ℕ) (w : Moved) (avoided : Bool)
-      → marks′ ≡ filled full bases (l .least) (l .most) needs weights marks
-      → w ≡ witnessOf full marks′
-      → (avoided ≡ walkable full marks′ (length path)) × (path′ ≡ walked full marks′ path)
-      → Computed c s marks path (record { answer = Checked.Accepted; poss = w .found; witness = w .cut; def = not avoided }) marks′ path′
-  computed marks′ path′ w avoided em ew (ea, ep) = record {
-    reply = ap₂ {C = Reply} (λ x y. record { answer = Checked.Accepted; poss = x .found; witness = x .cut; def = not y }) (ew ∙ found) (ea ∙ way .0) ∙ replied (possOf (latticeOf c s)) (defOf (latticeOf c s));
-    marks-after = filled-is;
-    path-after = ep ∙ way .1 ∙ walked-is (defOf (latticeOf c s));
+  found : witnessOf full after ≡ possOf (latticeOf c s)
+  found = witness-poss full (latticeOf c s) (sym counts) after _ after-is
+
+  way : (avoided full after ≡ isPath (defOf (latticeOf c s))) × (walked full after path ≡ laidIn (total (countsOf full)) (defOf (latticeOf c s)) path)
+  way = walked-def full (latticeOf c s) (sym counts) after _ after-is path
+
+  -- the reply of the marks is that of the recording
+  replied : (poss def : Option (List ℕ))
+      → (let v = settledOf (full .n) poss (not (isPath def)) in _≡_ {A = Reply} (record { answer = Checked.Accepted; poss = v .poss; witness = v .witness; def = v .def }) (replyOf (length (recorded.countsOf R)) poss def))
+  replied none none = rw (stations-full s full (z .accepts) (z .full-is)) refl
+  replied none (some d) = rw (stations-full s full (z .accepts) (z .full-is)) refl
+  replied (some p) none = rw (stations-full s full (z .accepts) (z .full-is)) refl
+  replied (some p) (some d) = rw (stations-full s full (z .accepts) (z .full-is)) refl
+
+  laid : (def : Option (List ℕ)) → laidIn (total (countsOf full)) def path ≡ pathAfter (total (recorded.countsOf R)) def path
+  laid none = refl
+  laid (some d) = rw counts refl
+
+  pub computed : (v : marked.Settled) (marks′ path′ : List ℕ) → Settles full bases (l .least) (l .most) needs weights marks path v marks′ path′
+      → Computed c s marks path (record { answer = Checked.Accepted; poss = v .poss; witness = v .witness; def = v .def }) marks′ path′
+  computed v marks′ path′ t = record {
+    reply = ap {B = Reply} (λ (x : marked.Settled). record { answer = Checked.Accepted; poss = x .poss; witness = x .witness; def = x .def }) (rw (ready, found, way .0) at (t .reply)) ∙ replied (possOf (latticeOf c s)) (defOf (latticeOf c s));
+    marks-after = rw ready at (t .marks-after) ∙ after-is;
+    path-after = rw ready at (t .path-after) ∙ way .1 ∙ laid (defOf (latticeOf c s));
   }
-    where
-      filled-is : marks′ ≡ table (latticeOf c s) ++ drop (box (recorded.countsOf R)) marks
-      filled-is = em ∙ filled-here ∙ ap₂ (λ (t k : List ℕ). t ++ drop (box k) marks) (table-same _ (latticeOf c s) agreeing) counts
-
-      found : witnessOf full marks′ ≡ movedOf (full .n) (possOf (latticeOf c s))
-      found = witness-poss full (full-full s full (z .accepts) (z .full-is)) (rw counts (z .limit)) (latticeOf c s) (sym counts) marks′ _ filled-is
-
-      way : (walkable full marks′ (length path) ≡ isPath (defOf (latticeOf c s))) × (walked full marks′ path ≡ laidIn (total (countsOf full)) (defOf (latticeOf c s)) path)
-      way = walked-def full (full-full s full (z .accepts) (z .full-is)) (rw counts (z .limit)) (latticeOf c s) (sym counts) marks′ _ filled-is path (rw counts (z .path-fit))
-
-      replied : (poss def : Option (List ℕ)) → _≡_ {A = Reply} (record { answer = Checked.Accepted; poss = movedOf (full .n) poss .found; witness = movedOf (full .n) poss .cut; def = not (isPath def) }) (replyOf (length (recorded.countsOf R)) poss def)
-      replied none none = rw (stations-full s full (z .accepts) (z .full-is)) refl
-      replied none (some d) = rw (stations-full s full (z .accepts) (z .full-is)) refl
-      replied (some p) none = rw (stations-full s full (z .accepts) (z .full-is)) refl
-      replied (some p) (some d) = rw (stations-full s full (z .accepts) (z .full-is)) refl
-
-      walked-is : (def : Option (List ℕ)) → laidIn (total (countsOf full)) def path ≡ pathAfter (total (recorded.countsOf R)) def path
-      walked-is none = refl
-      walked-is (some d) = rw counts refl

@@ -29,7 +29,7 @@ pub fn verdicts(
     let mut added = [0u16; 4096];
     weights::lay_weights(c, full, recording::starts(s), levels, &mut added);
     let l = shifted(condition::limits_of(c));
-    marks::fill(
+    let v = marks::settle(
         full,
         needs::bases(full),
         l.least,
@@ -37,15 +37,14 @@ pub fn verdicts(
         &table,
         &added,
         marks,
+        path,
     );
-    let w = marks::witness(full, marks);
-    let cut = w.cut;
-    let avoided = marks::walk(full, marks, path);
+    let witness = v.witness;
     Reply {
         answer: Checked::Accepted,
-        poss: w.found,
-        witness: cut,
-        def: !avoided,
+        poss: v.poss,
+        witness: witness,
+        def: v.def,
     }
 }
 

@@ -2,19 +2,19 @@
 -- a step back from it; the marks after a row; what a row is filled from is there. Assumes nothing.
 use mathlib.Core.Path.{_≡_, refl, sym, ap, _∙_, subst}
 use mathlib.Core.Bool.{Bool, true, false, _&&_, _||_, cond, false≢true}
-use mathlib.Core.List.{List, [], _∷_, _++_, append-assoc, append-nil}
+use mathlib.Core.List.{List, [], _∷_, _++_}
 use Prim.Native.Nat.{ℕ, zero, suc, _+_, _-_, _*_, _≤_, _<_}
 use native.Mathlib.Nat.{zero-mod, zero-div}
 use native.Mathlib.Numerals.{add-one}
 use native.Mathlib.Omega.{arith}
 use lib.Dec.{leb, ltb, eqb}
-use lib.ListN.{length, take, drop, set, replicate, length-set}
-use lib.Seq.{getD-set-same, getD-set-other, getD-take, set-getD, ext-getD, length-take-le}
-use borrow.Author.Tests.{leb-true, le-leb, eqb-true, eq-eqb}
+use lib.ListN.{length, take, drop, set, length-set}
+use lib.Seq.{getD-set-same, getD-set-other, getD-take, set-getD, ext-getD, length-take-le, take-at}
+use borrow.Author.Tests.{leb-true, le-leb, lt-leb, lt-ltb, ltb-true, ltb-false, eqb-true, eq-eqb}
 use Rattle.cuts.specs.Below.{every, any, sumTo, tab}
 use Rattle.cuts.specs.Cut.{at, zeros, back, total, Within}
 use Rattle.cuts.specs.Rank.{rank, unrank, box}
-use Rattle.cuts.specs.Computed.{leads, met, markOf, tabled}
+use Rattle.cuts.specs.Computed.{number, leads, met, markOf, tabled}
 use Rattle.cut.specs.Value.{countsOf, FullCut}
 use Rattle.cut.specs.declared.Cut.{Cut}
 use Rattle.cuts.proofs.BelowLaws.{and-false, every-same, every-true, true-every, sumTo-same, length-tab, getD-tab}
@@ -23,12 +23,12 @@ use Rattle.cuts.proofs.RankLaws.{unrank-within, rank-unrank, rank-zeros}
 use Rattle.cuts.proofs.TabledRight.{length-tabled}
 use Rattle.cut.proofs.ValueLaws.{at-countsOf}
 use Rattle.cuts.proofs.ReplyLaws.{refuted}
-use Rattle.marks.specs.declared.Task.{Task}
-use Rattle.marks.specs.declared.Row.{Row}
+use Rattle.marks.specs.declared.Frame.{Frame}
+use Rattle.marks.specs.declared.Others.{Others}
 use Rattle.marks.specs.Flat.{rowMet, between, flatConsistent, flatHolds}
-use Rattle.marks.specs.Rows.{cutAt, stridesOf, leadsBack, othersMet, othersNeed, othersAdd, latticeOf, marksTo, Ready, RowAt, rowMark, rowMarks, NeedsThere, WeightsThere, Eights, RowReady}
+use Rattle.marks.specs.Rows.{cutAt, stridesOf, leadsBack, othersMet, othersNeed, othersAdd, othersOf, Task, latticeOf, marksTo, Ready, RowAt, frameOf, cutMark, rowMarks, RowReady}
 use Rattle.marks.proofs.SearchLaws.{tests-same, every-split, sumTo-split, any-same, leb-mostTo}
-use Rattle.marks.proofs.RowLaws.{replicate-snoc, length-unrank, length-countsOf}
+use Rattle.marks.proofs.RowLaws.{length-unrank, length-countsOf, drop-front}
 use Rattle.marks.proofs.BackLaws.{length-stridesOf, steps-back, leads-same}
 
 -- of two cuts of a row, with x and with all events of station 1
@@ -129,6 +129,18 @@ take-cutAt m full eight r =
     let b : length (unrank (countsOf m) r) ≡ m .n = length-unrank (countsOf m) r ∙ length-countsOf m full eight in
     ext-getD 0 _ _ (a ∙ sym b)
     (λ i l. getD-take (m .n) (tab 8 (at (unrank (countsOf m) r))) i 0 (omega arith) ∙ getD-tab 8 (at (unrank (countsOf m) r)) 0 i (omega (arith, full .most-eight)))
+
+-- a cut with fewer events of station 1 than the others ask for is marked 0
+number-low : (a b c : Bool) (low x : ℕ) → number (a && leb low x) b c ≡ cond (ltb x low) 0 (number a b c)
+number-low a b c low x = go (ltb x low) refl
+  where
+    met : (a : Bool) → number (a && true) b c ≡ number a b c
+    met true = refl
+    met false = refl
+
+    go : (t : Bool) → ltb x low ≡ t → number (a && leb low x) b c ≡ cond t 0 (number a b c)
+    go true t = rw (lt-leb low x (ltb-true x low t), and-false a) refl
+    go false t = rw (le-leb low x (ltb-false x low t)) (met a)
 
 -- a step back is looked for where there is an event only
 leads-cond : (c : List ℕ) (g : ℕ → ℕ) (p : ℕ) → leads c (λ q. cond (ltb 0 (at c q)) (g q) 0) p ≡ leads c g p
@@ -236,114 +248,109 @@ module _ (task : Task) (needs weights : List ℕ) where
   unfolding marksTo tabled
   marksTo-more r = refl
 
-  module _ (full : FullCut m) (eight : length (m .counts) ≡ 8) (top : List ℕ) (first : ℕ) (at-row : RowAt m top first) where
-    -- what the cuts of the row have in common
-    abbrev pub rowOf : Row
-    rowOf = record {
-      n = m .n;
-      base = at (task .bases) 0;
-      low = othersNeed (m .n) (task .bases) needs top;
-      sum = othersAdd (m .n) (task .bases) weights top;
-      least = task .least;
-      most = task .most;
-    }
+  module _ (full : FullCut m) (eight : length (m .counts) ≡ 8) (top : List ℕ) (first : ℕ) (at-row : RowAt m top first) (few : at (m .counts) 0 < 65536) where
+    -- the mark of a cut of the row
+    rowMark-is : (x : ℕ) → x ≤ at (m .counts) 0 → (l : List ℕ)
+        → cond (ltb x (othersOf (m .n) (task .bases) needs weights top .low)) 0
+        (cutMark (frameOf task) (othersOf (m .n) (task .bases) needs weights top .sum) needs weights (stridesOf m) l (set top 0 x) x (first + x))
+        ≡ nextMark (first + x) l
+    unfolding othersOf cutMark markOf
+    rowMark-is x h l = go (othersMet (m .n) (task .bases) needs top) refl
+      where
+        need : ℕ
+        need = othersNeed (m .n) (task .bases) needs top
 
-    rowMark-is : othersMet (m .n) (task .bases) needs top ≡ true → (x : ℕ) → x ≤ at (m .counts) 0 → (l : List ℕ)
-        → rowMark rowOf needs weights (stridesOf m) l (set top 0 x) x (first + x) ≡ nextMark (first + x) l
-    unfolding rowMark markOf
-    rowMark-is t x h l =
-        sym
-        (rw (
-          consistent-row m full eight top first at-row x h (task .bases) (task .least) (task .most) needs weights t,
-          holds-row m full eight top first at-row x h (task .bases) (task .least) (task .most) needs weights,
-          met-row m full eight top first at-row x h l,
-        )
-        refl)
+        add : ℕ
+        add = othersAdd (m .n) (task .bases) weights top
+
+        go : (b : Bool) → othersMet (m .n) (task .bases) needs top ≡ b
+            → cond (ltb x (cond {A = Others} b (record { low = need; sum = add }) (record { low = 65536; sum = 0 }) .low)) 0
+            (number (rowMet (m .n) needs (8 * (at (task .bases) 0 + x)) (set top 0 x))
+            (between (task .least) (task .most) (cond {A = Others} b (record { low = need; sum = add }) (record { low = 65536; sum = 0 }) .sum + at weights (at (task .bases) 0 + x)))
+            (eqb (first + x) 0 || any (leadsBack l (set top 0 x) (stridesOf m) (first + x)) (m .n)))
+            ≡ nextMark (first + x) l
+        go true t =
+            sym
+            (rw (
+              consistent-row m full eight top first at-row x h (task .bases) (task .least) (task .most) needs weights t,
+              holds-row m full eight top first at-row x h (task .bases) (task .least) (task .most) needs weights,
+              met-row m full eight top first at-row x h l,
+            )
+            (number-low
+            (rowMet (m .n) needs (8 * (at (task .bases) 0 + x)) (set top 0 x))
+            (between (task .least) (task .most) (add + at weights (at (task .bases) 0 + x)))
+            (eqb (first + x) 0 || any (leadsBack l (set top 0 x) (stridesOf m) (first + x)) (m .n))
+            need x))
+        go false t =
+            rw (
+              lt-ltb x 65536 (omega arith),
+              inconsistent-row m full eight top first at-row x h (task .bases) (task .least) (task .most) needs weights t,
+            )
+            refl
 
     -- the marks after x cuts of a row
-    pub rowMarks-is : othersMet (m .n) (task .bases) needs top ≡ true → (x : ℕ) → x ≤ suc (at (m .counts) 0)
-        → rowMarks rowOf needs weights (stridesOf m) top first (marksTo task needs weights first) x ≡ marksTo task needs weights (first + x)
+    pub rowMarks-is : (x : ℕ) → x ≤ suc (at (m .counts) 0)
+        → rowMarks (frameOf task) (othersOf (m .n) (task .bases) needs weights top) needs weights (stridesOf m) top first (marksTo task needs weights first) x
+        ≡ marksTo task needs weights (first + x)
     unfolding rowMarks
-    rowMarks-is t zero h =
+    rowMarks-is zero h =
         let e : first + 0 ≡ first = omega arith in
         rw e refl
-    rowMarks-is t (suc x) h =
+    rowMarks-is (suc x) h =
         let e : first + suc x ≡ suc (first + x) = omega arith in
-        rw (e, marksTo-more (first + x), rowMarks-is t x (omega arith), rowMark-is t x (omega arith) (marksTo task needs weights (first + x))) refl
+        rw (e, marksTo-more (first + x), rowMarks-is x (omega arith), rowMark-is x (omega arith) (marksTo task needs weights (first + x))) refl
 
-    -- zeros where no cut of the row is consistent
-    pub blank-is : othersMet (m .n) (task .bases) needs top ≡ false → (x : ℕ) → x ≤ suc (at (m .counts) 0)
-        → marksTo task needs weights first ++ replicate x 0 ≡ marksTo task needs weights (first + x)
-    unfolding markOf
-    blank-is t zero h =
-        let e : first + 0 ≡ first = omega arith in
-        rw (e, append-nil) refl
-    blank-is t (suc x) h =
-        let e : first + suc x ≡ suc (first + x) = omega arith in
-        ap (λ (l : List ℕ). marksTo task needs weights first ++ l) (replicate-snoc x 0)
-        ∙ sym (append-assoc (marksTo task needs weights first) (replicate x 0) (0 ∷ []))
-        ∙ rw (
-          blank-is t x (omega arith),
-          e,
-          marksTo-more (first + x),
-          inconsistent-row m full eight top first at-row x (omega arith) (task .bases) (task .least) (task .most) needs weights t,
-        )
-        refl
+module _ (task : Task) (needs weights : List ℕ) (room : ℕ) (ready : Ready task needs weights room) (top : List ℕ) (first : ℕ) (at-row : RowAt (task .full) top first)
+    (bases strides : List ℕ) (bases-are : bases ≡ task .bases) (strides-are : strides ≡ stridesOf (task .full)) (k : ℕ) (events : k ≡ at (task .full .counts) 0) where
+  -- what the rows have in common, station 1 having k events
+  abbrev frame : Frame
+  frame = record { n = task .full .n; width = k + 1; base = at bases 0; least = task .least; most = task .most }
 
-module _ (task : Task) (needs weights : List ℕ) (room : ℕ) (ready : Ready task needs weights room) (top : List ℕ) (first : ℕ) (at-row : RowAt (task .full) top first) where
   -- no count of the row is above its station's events
   top-under : (p : ℕ) → p < task .full .n → at top p ≤ at (task .full .counts) p
   top-under p l =
       let k = at (task .full .counts) 0 in
       let same : set top 0 k ≡ top = rw (← at-row .last) (set-getD top 0 0) in
-      let w = within-at (countsOf (task .full)) (take (task .full .n) (set top 0 k)) (within-row (task .full) (ready .full) (ready .eight) top first at-row k (omega arith)) p in
+      let w = within-at (countsOf (task .full)) (take (task .full .n) (set top 0 k)) (within-row (task .full) (ready .full) (ready .rows .eight) top first at-row k (omega arith)) p in
       omega (arith, rw (same, getD-take (task .full .n) top p 0 l, at-countsOf (task .full) p l) at w)
 
-  eights : Eights (task .full .n) (task .bases) top
-  eights = (ready .full .some-station, ready .full .most-eight, ready .starts, at-row .eight)
-
-  -- the rows of its stations are there
-  pub needs-there : (bases : List ℕ) → bases ≡ task .bases → NeedsThere (task .full .n) bases needs top × Eights (task .full .n) bases top
-  needs-there bases e = rw e (λ p l. omega (arith, ready .needed p l, top-under p l), eights)
-
-  pub weights-there : (bases : List ℕ) → bases ≡ task .bases → WeightsThere (task .full .n) bases weights top × Eights (task .full .n) bases top
-  weights-there bases e = rw e (λ p l. omega (arith, ready .weighed p l, top-under p l), eights)
-
   -- every cut of the row can be marked
-  pub row-ready : (low sum : ℕ) → sum ≤ 524280
-      → RowReady (record { n = task .full .n; base = at (task .bases) 0; low = low; sum = sum; least = task .least; most = task .most }) needs weights (stridesOf (task .full)) room top first
-  row-ready low sum small = record {
-    eight = at-row .eight;
+  pub row-ready : RowReady frame needs weights bases strides room top first
+  row-ready = rw (events, bases-are, strides-are) (record {
+    rows = record {
+      some = ready .rows .some;
+      most = ready .rows .most;
+      starts = ready .rows .starts;
+      eight = at-row .eight;
+      needed = λ p l. omega (arith, ready .rows .needed p l, top-under p l);
+      weighed = λ p l. omega (arith, ready .rows .weighed p l, top-under p l);
+    };
+    short = omega (arith, at-row .within, ready .limit);
+    inside = omega (arith, at-row .within, ready .fits);
     each = λ x h.
-        let k : x ≤ at (task .full .counts) 0 = omega (arith, at-row .last) in
+        let k : x ≤ at (task .full .counts) 0 = omega arith in
         record {
-          stations = ready .full .most-eight;
-          counts = simp length-set (omega (arith, at-row .eight, ready .full .most-eight));
-          strided = omega (arith, length-stridesOf (task .full) (ready .full), ready .full .most-eight);
-          needed = omega (arith, ready .needed 0 (ready .full .some-station));
-          weighed = omega (arith, ready .weighed 0 (ready .full .some-station));
-          small = small;
-          back = rw (← rank-row (task .full) (ready .full) (ready .eight) top first at-row x k)
-              (steps-back (task .full) (ready .full) (ready .eight) (set top 0 x) (within-row (task .full) (ready .full) (ready .eight) top first at-row x k));
+          stations = ready .rows .most;
+          counts = simp length-set (omega (arith, at-row .eight, ready .rows .most));
+          strided = omega (arith, length-stridesOf (task .full) (ready .full), ready .rows .most);
+          needed = omega (arith, ready .rows .needed 0 (ready .rows .some));
+          weighed = omega (arith, ready .rows .weighed 0 (ready .rows .some));
+          back = rw (← rank-row (task .full) (ready .full) (ready .rows .eight) top first at-row x k)
+              (steps-back (task .full) (ready .full) (ready .rows .eight) (set top 0 x) (within-row (task .full) (ready .full) (ready .rows .eight) top first at-row x k));
           fits = omega (arith, at-row .within, ready .fits);
         };
-  }
+  })
 
-  -- a row none of whose cuts is consistent, once it is blank
-  pub row-blank : (bases : List ℕ) (met : Bool) (w : ℕ) (marks marks′ : List ℕ) → bases ≡ task .bases → met ≡ othersMet (task .full .n) bases needs top → met ≡ false → w ≡ at top 0
-      → take first marks ≡ marksTo task needs weights first → marks′ ≡ (take first marks ++ replicate (w + 1) 0) ++ drop (first + (w + 1)) marks
-      → marks′ ≡ marksTo task needs weights (first + (at top 0 + 1)) ++ drop (first + (at top 0 + 1)) marks
-  row-blank bases met w marks marks′ e a f h front after =
-      let t : othersMet (task .full .n) (task .bases) needs top ≡ false = rw e at (sym a ∙ f) in
-      after ∙ rw (h, front, blank-is task needs weights (ready .full) (ready .eight) top first at-row t (at top 0 + 1) (omega (arith, at-row .last))) refl
-
-  -- .. and any other row, once it is marked cut by cut
-  pub row-marked : (bases strides : List ℕ) (met : Bool) (low sum : ℕ) (marks marks′ : List ℕ) → bases ≡ task .bases → strides ≡ stridesOf (task .full)
-      → met ≡ othersMet (task .full .n) bases needs top → met ≡ true → low ≡ othersNeed (task .full .n) bases needs top → sum ≡ othersAdd (task .full .n) bases weights top
-      → take first marks ≡ marksTo task needs weights first
-      → marks′ ≡ rowMarks (record { n = task .full .n; base = at bases 0; low = low; sum = sum; least = task .least; most = task .most }) needs weights strides top first (take first marks) (at top 0 + 1)
-      ++ drop (first + (at top 0 + 1)) marks
-      → marks′ ≡ marksTo task needs weights (first + (at top 0 + 1)) ++ drop (first + (at top 0 + 1)) marks
-  row-marked bases strides met low sum marks marks′ e g a f l s front after =
-      let t : othersMet (task .full .n) (task .bases) needs top ≡ true = rw e at (sym a ∙ f) in
-      after ∙ rw (l, s, e, g, front, rowMarks-is task needs weights (ready .full) (ready .eight) top first at-row t (at top 0 + 1) (omega (arith, at-row .last))) refl
+  -- the marks after one row more
+  pub row-marked : (marks marks₁ marks₂ : List ℕ) → marks₁ ≡ marksTo task needs weights first ++ drop first marks
+      → marks₂ ≡ rowMarks frame (othersOf (frame .n) bases needs weights top) needs weights strides top first (take first marks₁) (frame .width) ++ drop (first + frame .width) marks₁
+      → marks₂ ≡ marksTo task needs weights (first + frame .width) ++ drop (first + frame .width) marks
+  row-marked marks marks₁ marks₂ before after =
+      let width : ℕ = k + 1 in
+      let front : take first marks₁ ≡ marksTo task needs weights first = rw before (take-at _ _ _ (length-marksTo task needs weights first)) in
+      let rest : drop (first + width) marks₁ ≡ drop (first + width) marks =
+      rw before (drop-front (marksTo task needs weights first) marks first (first + width) (length-marksTo task needs weights first) (omega arith)) in
+      after
+      ∙ rw (front, rest, events, bases-are, strides-are)
+      (ap (λ (l : List ℕ). l ++ drop (first + (at (task .full .counts) 0 + 1)) marks)
+      (rowMarks-is task needs weights (ready .full) (ready .rows .eight) top first at-row (omega (arith, at-row .within, ready .limit)) (at (task .full .counts) 0 + 1) (omega arith)))

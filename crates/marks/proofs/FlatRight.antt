@@ -1,45 +1,33 @@
 -- What is read off the marks is what the mathematics says of the lattice. In order: one reply each; lattices that agree have the same table and the same
 -- verdicts; the witness is the one of Poss; the way back is the path of Def. Assumes nothing.
 use mathlib.Core.Path.{_≡_, refl, sym, ap, _∙_}
-use mathlib.Core.Bool.{Bool, true, false, _&&_, cond}
+use mathlib.Core.Bool.{Bool, true, false, cond}
 use mathlib.Core.Option.{Option, none, some}
-use mathlib.Core.List.{List, [], _∷_, _++_, map, reverse}
+use mathlib.Core.List.{List, _∷_, _++_, map, reverse}
 use Prim.Native.Nat.{ℕ, zero, suc, _≤_, _<_}
 use native.Mathlib.Omega.{arith}
 use lib.Dec.{ltb, eqb}
 use lib.ListN.{length, drop, length-reverse, List·getD-append}
-use borrow.Author.Tests.{le-leb}
 use Rattle.cuts.specs.Below.{first}
 use Rattle.cuts.specs.Cut.{at, back, total, Within}
 use Rattle.cuts.specs.Rank.{box, rank, unrank}
 use Rattle.cuts.specs.Verdict.{Lattice}
 use Rattle.cuts.specs.Computed.{leads, markOf, tabled, table, looked, walk, possOf, defOf}
-use Rattle.cut.specs.Value.{countsOf, FullCut}
+use Rattle.cut.specs.Value.{countsOf}
 use Rattle.cut.specs.declared.Cut.{Cut}
-use Rattle.cut.specs.declared.Moved.{Moved}
 use Rattle.cuts.proofs.CutLaws.{within-back, within-full}
 use Rattle.cuts.proofs.RankLaws.{rank-lt, unrank-within}
 use Rattle.cuts.proofs.TabledRight.{length-tabled}
-use Rattle.cut.proofs.ValueRight.{isFull-is}
 use Rattle.cuts.proofs.ReplyLaws.{replies-equal}
-use Rattle.marks.specs.Flat.{plain, fillable, filled, cutOfCounts, witnessOf, walkable, walked}
+use Rattle.marks.specs.declared.Settled.{Settled}
+use Rattle.marks.specs.Flat.{plain, witnessOf, avoided, walked, Settles}
 use Rattle.marks.proofs.SearchLaws.{first-same}
 
--- the promise of each entry permits one reply
-pub fill-unique : (m : Cut) (bases : List ℕ) (least most : ℕ) (needs weights room : List ℕ) (r r′ : Bool) (marks marks′ : List ℕ)
-    → (r ≡ fillable m bases least most needs weights (length room)) × (marks ≡ filled m bases least most needs weights room)
-    → (r′ ≡ fillable m bases least most needs weights (length room)) × (marks′ ≡ filled m bases least most needs weights room)
-    → (r ≡ r′) × (marks ≡ marks′)
-fill-unique m bases least most needs weights room r r′ marks marks′ (a, b) (c, d) = (replies-equal a c, replies-equal b d)
-
-pub witness-unique : (m : Cut) (marks : List ℕ) (r r′ : Moved) → r ≡ witnessOf m marks → r′ ≡ witnessOf m marks → r ≡ r′
-witness-unique m marks r r′ = replies-equal
-
-pub walk-unique : (m : Cut) (marks room : List ℕ) (r r′ : Bool) (path path′ : List ℕ)
-    → (r ≡ walkable m marks (length room)) × (path ≡ walked m marks room)
-    → (r′ ≡ walkable m marks (length room)) × (path′ ≡ walked m marks room)
-    → (r ≡ r′) × (path ≡ path′)
-walk-unique m marks room r r′ path path′ (a, b) (c, d) = (replies-equal a c, replies-equal b d)
+-- the promise permits one reply, and one content of each room
+pub settle-unique : (m : Cut) (bases : List ℕ) (least most : ℕ) (needs weights room path : List ℕ) (r r′ : Settled) (a b a′ b′ : List ℕ)
+    → Settles m bases least most needs weights room path r a b → Settles m bases least most needs weights room path r′ a′ b′ → (r ≡ r′) × (a ≡ a′) × (b ≡ b′)
+settle-unique m bases least most needs weights room path r r′ a b a′ b′ s t =
+    (replies-equal (s .reply) (t .reply), replies-equal (s .marks-after) (t .marks-after), replies-equal (s .path-after) (t .path-after))
 
 -- two lattices with the same counts whose tests agree on every cut
 pub record Agreeing (L K : Lattice) : Type 0 where
@@ -97,11 +85,6 @@ poss-same L K a = rw (possOf-in L, possOf-in K, table-same L K a, a .counts) ref
 pub def-same : (L K : Lattice) → Agreeing L K → defOf L ≡ defOf K
 def-same L K a = rw (defOf-in L, defOf-in K, table-same L K a, a .counts) refl
 
--- the answer of Poss as a cut of eight: found exactly if there is a witness, and its counts padded with zeros; else the start
-abbrev pub movedOf : ℕ → Option (List ℕ) → Moved
-movedOf n none = record { found = false; cut = cutOfCounts n [] }
-movedOf n (some c) = record { found = true; cut = cutOfCounts n c }
-
 -- the answer of Def laid into the room: the path as station numbers, first step first, and the rest as before; without a path the room as it was
 abbrev pub laidIn : ℕ → Option (List ℕ) → List ℕ → List ℕ
 laidIn events none room = room
@@ -112,9 +95,8 @@ abbrev pub isPath : Option (List ℕ) → Bool
 isPath none = false
 isPath (some path) = true
 
--- a full cut whose box is within its limit, and marks that begin with the table of a lattice with its counts
-module _ (m : Cut) (full : FullCut m) (limit : box (countsOf m) ≤ 65536) (L : Lattice) (counts : L .counts ≡ countsOf m) (marks rest : List ℕ)
-    (begins : marks ≡ table L ++ rest) where
+-- marks that begin with the table of a lattice with the counts of m
+module _ (m : Cut) (L : Lattice) (counts : L .counts ≡ countsOf m) (marks rest : List ℕ) (begins : marks ≡ table L ++ rest) where
   marks-at : (r : ℕ) → r < box (countsOf m) → at marks r ≡ at (table L) r
   marks-at r h =
       rw begins (List·getD-append (table L) rest 0 r (omega (arith, length-tabled (markOf L) (L .counts) (box (L .counts)), ap box counts)))
@@ -136,27 +118,20 @@ module _ (m : Cut) (full : FullCut m) (limit : box (countsOf m) ≤ 65536) (L : 
       mark c w = marks-at (rank (countsOf m) c) (rank-lt (countsOf m) c w)
 
   -- the witness read off the marks is that of Poss
-  pub witness-poss : witnessOf m marks ≡ movedOf (m .n) (possOf L)
+  pub witness-poss : witnessOf m marks ≡ possOf L
   unfolding witnessOf
-  witness-poss = rw (poss-marks, isFull-is m .1 full, le-leb (box (countsOf m)) 65536 limit) (go (first (λ r. eqb (at marks r) 1) (box (countsOf m))) (ltb (first (λ r. eqb (at marks r) 1) (box (countsOf m))) (box (countsOf m))))
-    where
-      go : (r : ℕ) (b : Bool)
-          → _≡_ {A = Moved} (cond b (record { found = true; cut = cutOfCounts (m .n) (unrank (countsOf m) r) }) (record { found = false; cut = cutOfCounts (m .n) [] }))
-          (movedOf (m .n) (cond b (some (unrank (countsOf m) r)) none))
-      go r true = refl
-      go r false = refl
+  witness-poss = sym poss-marks
 
-  -- the way back read off the marks is the path of Def, where the room has it
-  pub walked-def : (room : List ℕ) → total (countsOf m) ≤ length room
-      → (walkable m marks (length room) ≡ isPath (defOf L)) × (walked m marks room ≡ laidIn (total (countsOf m)) (defOf L) room)
-  unfolding walkable walked
-  walked-def room h =
-      rw (def-marks, isFull-is m .1 full, le-leb (box (countsOf m)) 65536 limit, le-leb (total (countsOf m)) (length room) h)
+  -- the way back read off the marks is the path of Def
+  pub walked-def : (room : List ℕ) → (avoided m marks ≡ isPath (defOf L)) × (walked m marks room ≡ laidIn (total (countsOf m)) (defOf L) room)
+  unfolding avoided walked
+  walked-def room =
+      rw def-marks
       (go (eqb (at marks (rank (countsOf m) (countsOf m))) 3) (reverse (walk (plain (countsOf m)) (λ c. at marks (rank (countsOf m) c)) (total (countsOf m)) (countsOf m))))
     where
       go : (b : Bool) (path : List ℕ)
-          → ((b && true) ≡ isPath (cond b (some path) none))
-          × (cond (b && true) (map suc path ++ drop (total (countsOf m)) room) room ≡ laidIn (total (countsOf m)) (cond b (some path) none) room)
+          → (b ≡ isPath (cond b (some path) none))
+          × (cond b (map suc path ++ drop (total (countsOf m)) room) room ≡ laidIn (total (countsOf m)) (cond b (some path) none) room)
       go true path = (refl, refl)
       go false path = (refl, refl)
 

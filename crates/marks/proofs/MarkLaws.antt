@@ -1,66 +1,63 @@
 -- Laws of the marks of a row. In order: the mark of a cut, as its tests decide it; a mark sees those of lower ranks; the row, cut by cut. Assumes nothing.
 use mathlib.Core.Path.{_≡_, refl, sym, ap, _∙_}
 use mathlib.Core.Bool.{Bool, true, false, _&&_}
-use mathlib.Core.List.{List, _++_}
+use mathlib.Core.List.{List, [], _∷_, _++_, append-assoc, append-nil}
 use Prim.Native.Nat.{ℕ, zero, suc, _+_, _-_, _*_, _≤_, _<_}
 use native.Mathlib.Nat.{le-of-eq}
 use native.Mathlib.Numerals.{add-one}
 use native.Mathlib.Omega.{arith}
 use lib.Dec.{ltb, eqb}
-use lib.ListN.{length, take, drop, set, take-append-drop, length-append, List·getD-append}
+use lib.ListN.{length, take, drop, set, replicate, length-append, List·getD-append}
 use lib.Seq.{length-take-le, set-set}
-use borrow.Author.Tests.{ltb-true, lt-ltb, le-ltb, le-leb, lt-leb, eq-eqb, ne-eqb}
+use borrow.Author.Tests.{ltb-true, lt-ltb, le-ltb, eq-eqb, ne-eqb}
 use Rattle.cuts.specs.Below.{first, any}
 use Rattle.cuts.specs.Cut.{at}
-use Rattle.cuts.proofs.BelowLaws.{and-false, or-right}
+use Rattle.cuts.proofs.BelowLaws.{or-right}
 use Rattle.cuts.proofs.TabLaws.{front-more}
-use Rattle.marks.specs.declared.Row.{Row}
+use Rattle.marks.specs.declared.Frame.{Frame}
+use Rattle.marks.specs.declared.Others.{Others}
 use Rattle.marks.specs.Flat.{rowMet, between}
-use Rattle.marks.specs.Rows.{leadsBack, StepsBack, rowMark, rowMarks}
+use Rattle.marks.specs.Rows.{leadsBack, StepsBack, cutMark, rowMarks}
 use Rattle.marks.proofs.SearchLaws.{any-same}
+use Rattle.marks.proofs.RowLaws.{replicate-snoc, blank-keeps}
 
-module _ (row : Row) (needs weights strides marks c : List ℕ) (x r : ℕ) where
+module _ (frame : Frame) (sum : ℕ) (needs weights strides marks c : List ℕ) (x r : ℕ) where
   -- the tests of a mark, in order
   abbrev met : Bool
-  met = rowMet (row .n) needs (8 * (row .base + x)) c
+  met = rowMet (frame .n) needs (8 * (frame .base + x)) c
 
-  abbrev sum : ℕ
-  sum = row .sum + at weights (row .base + x)
+  abbrev holds : Bool
+  holds = between (frame .least) (frame .most) (sum + at weights (frame .base + x))
 
   abbrev place : ℕ
-  place = first (leadsBack marks c strides r) (row .n)
-
-  -- too few events of station 1 for the others
-  pub mark-low : x < row .low → 0 ≡ rowMark row needs weights strides marks c x r
-  unfolding rowMark
-  mark-low h = simp (lt-leb _ _ h, and-false)
+  place = first (leadsBack marks c strides r) (frame .n)
 
   -- its own row is not met
-  pub mark-unmet : met ≡ false → 0 ≡ rowMark row needs weights strides marks c x r
-  unfolding rowMark
+  pub mark-unmet : met ≡ false → 0 ≡ cutMark frame sum needs weights strides marks c x r
+  unfolding cutMark
   mark-unmet e = rw e refl
 
-  module _ (e : met ≡ true) (h : row .low ≤ x) where
+  module _ (e : met ≡ true) where
     -- the sum satisfies
-    pub mark-holds : between (row .least) (row .most) sum ≡ true → 1 ≡ rowMark row needs weights strides marks c x r
-    unfolding rowMark
-    mark-holds t = rw (e, le-leb _ _ h, t) refl
+    pub mark-holds : holds ≡ true → 1 ≡ cutMark frame sum needs weights strides marks c x r
+    unfolding cutMark
+    mark-holds t = rw (e, t) refl
 
-    module _ (t : between (row .least) (row .most) sum ≡ false) where
+    module _ (t : holds ≡ false) where
       -- it does not: the start
-      pub mark-start : r ≡ 0 → 3 ≡ rowMark row needs weights strides marks c x r
-      unfolding rowMark
-      mark-start z = rw (e, le-leb _ _ h, t, eq-eqb _ _ z) refl
+      pub mark-start : r ≡ 0 → 3 ≡ cutMark frame sum needs weights strides marks c x r
+      unfolding cutMark
+      mark-start z = rw (e, t, eq-eqb _ _ z) refl
 
       -- a step back leads to a 3
-      pub mark-reached : place < row .n → 3 ≡ rowMark row needs weights strides marks c x r
-      unfolding rowMark any
-      mark-reached l = rw (e, le-leb _ _ h, t, lt-ltb _ _ l, or-right (eqb r 0) true refl) refl
+      pub mark-reached : place < frame .n → 3 ≡ cutMark frame sum needs weights strides marks c x r
+      unfolding cutMark any
+      mark-reached l = rw (e, t, lt-ltb _ _ l, or-right (eqb r 0) true refl) refl
 
       -- none does
-      pub mark-cut-off : (r ≡ 0 → ⊥) → row .n ≤ place → 2 ≡ rowMark row needs weights strides marks c x r
-      unfolding rowMark any
-      mark-cut-off z l = rw (e, le-leb _ _ h, t, le-ltb _ _ l, ne-eqb _ _ z) refl
+      pub mark-cut-off : (r ≡ 0 → ⊥) → frame .n ≤ place → 2 ≡ cutMark frame sum needs weights strides marks c x r
+      unfolding cutMark any
+      mark-cut-off z l = rw (e, t, le-ltb _ _ l, ne-eqb _ _ z) refl
 
 -- two cuts that differ in their first count
 pub set-first : (c d : List ℕ) (x : ℕ) → c ≡ set d 0 (at c 0) → set c 0 x ≡ set d 0 x
@@ -76,36 +73,51 @@ leadsBack-front l rest c strides r p h b = go (ltb 0 (at c p)) refl
     go false e = refl
 
 -- a mark sees those of the ranks below only
-pub rowMark-front : (row : Row) (needs weights strides l rest c : List ℕ) (x r : ℕ) → r ≤ length l → StepsBack (row .n) c strides r
-    → rowMark row needs weights strides (l ++ rest) c x r ≡ rowMark row needs weights strides l c x r
-unfolding rowMark
-rowMark-front row needs weights strides l rest c x r h b = rw (any-same (leadsBack (l ++ rest) c strides r) (leadsBack l c strides r) (row .n) same) refl
+cutMark-front : (frame : Frame) (sum : ℕ) (needs weights strides l rest c : List ℕ) (x r : ℕ) → r ≤ length l → StepsBack (frame .n) c strides r
+    → cutMark frame sum needs weights strides (l ++ rest) c x r ≡ cutMark frame sum needs weights strides l c x r
+unfolding cutMark
+cutMark-front frame sum needs weights strides l rest c x r h b = rw (any-same (leadsBack (l ++ rest) c strides r) (leadsBack l c strides r) (frame .n) same) refl
   where
-    same : (p : ℕ) → p < row .n → leadsBack (l ++ rest) c strides r p ≡ leadsBack l c strides r p
+    same : (p : ℕ) → p < frame .n → leadsBack (l ++ rest) c strides r p ≡ leadsBack l c strides r p
     same p k = leadsBack-front l rest c strides r p h (b p k)
 
-module _ (row : Row) (needs weights strides top : List ℕ) (first : ℕ) where
-  pub length-rowMarks : (below : List ℕ) (x : ℕ) → length (rowMarks row needs weights strides top first below x) ≡ length below + x
+module _ (frame : Frame) (others : Others) (needs weights strides top : List ℕ) (first : ℕ) where
+  length-rowMarks : (below : List ℕ) (x : ℕ) → length (rowMarks frame others needs weights strides top first below x) ≡ length below + x
   unfolding rowMarks
   length-rowMarks below zero = omega arith
-  length-rowMarks below (suc x) = length-append (rowMarks row needs weights strides top first below x) _ ∙ omega (arith, length-rowMarks below x)
+  length-rowMarks below (suc x) = length-append (rowMarks frame others needs weights strides top first below x) _ ∙ omega (arith, length-rowMarks below x)
 
-  -- no cut of the row yet
-  pub rowMarks-none : (d : List ℕ) → d ≡ rowMarks row needs weights strides top first (take first d) 0 ++ drop (first + 0) d
+  -- zeros as long as the others ask for more events of station 1
+  rowMarks-blank : (below : List ℕ) (x : ℕ) → x ≤ others .low → rowMarks frame others needs weights strides top first below x ≡ below ++ replicate x 0
   unfolding rowMarks
-  rowMarks-none d =
-      let e : first + 0 ≡ first = omega arith in
-      sym (rw e (take-append-drop first d))
+  rowMarks-blank below zero h = sym (append-nil below)
+  rowMarks-blank below (suc x) h =
+      rw (lt-ltb x (others .low) h, rowMarks-blank below x (omega arith), replicate-snoc x 0) (append-assoc below (replicate x 0) (0 ∷ []))
+
+  -- the marks d with x zeros from rank first on are d′
+  module _ (d d′ : List ℕ) (x : ℕ) (fits : first + x ≤ length d) (blank : d′ ≡ (take first d ++ replicate x 0) ++ drop (first + x) d) where
+    -- they are the marks of x cuts
+    pub rowMarks-start : x ≤ others .low → d′ ≡ rowMarks frame others needs weights strides top first (take first d′) x ++ drop (first + x) d′
+    rowMarks-start h =
+        let (front, rest) = blank-keeps d d′ first x fits blank in
+        blank ∙ sym (rw (rowMarks-blank (take first d′) x h, front, rest (first + x) (omega arith)) refl)
+
+    -- .. and those of w follow from either
+    pub rowMarks-end : (l : List ℕ) (w : ℕ) → x ≤ w → l ≡ rowMarks frame others needs weights strides top first (take first d′) w ++ drop (first + w) d′
+        → l ≡ rowMarks frame others needs weights strides top first (take first d) w ++ drop (first + w) d
+    rowMarks-end l w h e =
+        let (front, rest) = blank-keeps d d′ first x fits blank in
+        rw (front, rest (first + w) (omega arith)) at e
 
   -- one cut more
-  pub rowMarks-more : (d l : List ℕ) (x : ℕ) → l ≡ rowMarks row needs weights strides top first (take first d) x ++ drop (first + x) d
-      → first + x < length d → StepsBack (row .n) (set top 0 x) strides (first + x)
-      → set l (first + x) (rowMark row needs weights strides l (set top 0 x) x (first + x))
-      ≡ rowMarks row needs weights strides top first (take first d) (x + 1) ++ drop (first + (x + 1)) d
+  pub rowMarks-more : (d l : List ℕ) (x : ℕ) → l ≡ rowMarks frame others needs weights strides top first (take first d) x ++ drop (first + x) d
+      → others .low ≤ x → first + x < length d → StepsBack (frame .n) (set top 0 x) strides (first + x)
+      → set l (first + x) (cutMark frame (others .sum) needs weights strides l (set top 0 x) x (first + x))
+      ≡ rowMarks frame others needs weights strides top first (take first d) (x + 1) ++ drop (first + (x + 1)) d
   unfolding rowMarks
-  rowMarks-more d l x e h b =
-      let xs = rowMarks row needs weights strides top first (take first d) x in
+  rowMarks-more d l x e g h b =
+      let xs = rowMarks frame others needs weights strides top first (take first d) x in
       let long : length xs ≡ first + x = length-rowMarks (take first d) x ∙ omega (arith, length-take-le first d (omega arith)) in
       let next : first + x + 1 ≡ first + (x + 1) = omega arith in
-      rw (e, rowMark-front row needs weights strides xs (drop (first + x) d) (set top 0 x) x (first + x) (le-of-eq (sym long)) b)
-      (front-more xs d (first + x) _ 0 long h ∙ rw (next, add-one x) refl)
+      rw (e, cutMark-front frame (others .sum) needs weights strides xs (drop (first + x) d) (set top 0 x) x (first + x) (le-of-eq (sym long)) b)
+      (front-more xs d (first + x) _ 0 long h ∙ rw (next, add-one x, le-ltb x (others .low) g) refl)

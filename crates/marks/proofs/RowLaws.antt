@@ -1,4 +1,4 @@
--- Laws of the rows of station 1. In order: the events of a cut; a row of zeros; the digits of a rank; lists filled in part; the last cut of a row,
+-- Laws of the rows of station 1. In order: the events of a cut; a list behind its front; a row of zeros; the digits of a rank; lists filled in part; the last cut of a row,
 -- its other cuts and where it lies; the next row. Assumes nothing.
 use mathlib.Core.Path.{_≡_, refl, sym, ap, _∙_}
 use mathlib.Core.List.{List, [], _∷_, _++_, append-assoc, append-nil}
@@ -7,8 +7,8 @@ use native.Mathlib.Nat.{not-suc-le-zero, le-of-suc-le-suc, zero-lt-suc, div-one,
 use native.Mathlib.Decide.{decLt}
 use native.Mathlib.Numerals.{add-one}
 use native.Mathlib.Omega.{arith}
-use lib.ListN.{length, take, drop, set, replicate, take-append-drop, length-append, length-drop, length-replicate, replicate-append-replicate, List·getD-eq-default}
-use lib.Seq.{length-take-le, drop-at, drop-set-lt, drop-append-add, drop-drop}
+use lib.ListN.{length, take, drop, set, replicate, take-append-drop, length-append, length-drop, length-set, length-replicate, replicate-append-replicate, List·getD-eq-default}
+use lib.Seq.{length-take-le, take-at, drop-at, drop-set-lt, drop-append-add, drop-drop}
 use Rattle.cuts.specs.Below.{sumTo, tab}
 use Rattle.cuts.specs.Cut.{at, total}
 use Rattle.cuts.specs.Rank.{weight, unrank, box}
@@ -26,6 +26,13 @@ unfolding sumTo
 total-take zero l h = refl
 total-take (suc n) [] h = absurd (not-suc-le-zero h)
 total-take (suc n) (x ∷ l) h = ap (λ (s : ℕ). x + s) (total-take n l (le-of-suc-le-suc h)) ∙ sym (sumTo-first n (at (x ∷ l)))
+
+-- the rest of a list whose first k are xs
+pub drop-front : (xs d : List ℕ) (k n : ℕ) → length xs ≡ k → k ≤ n → drop n (xs ++ drop k d) ≡ drop n d
+drop-front xs d k n e h =
+    let a : n ≡ length xs + (n - k) = omega arith in
+    let b : k + (n - k) ≡ n = omega arith in
+    ap (λ (i : ℕ). drop i (xs ++ drop k d)) a ∙ drop-append-add xs (drop k d) (n - k) ∙ drop-drop (n - k) k d ∙ ap (λ (i : ℕ). drop i d) b
 
 -- no zero yet
 pub blank-none : (l : List ℕ) (first : ℕ) → l ≡ (take first l ++ replicate 0 0) ++ drop (first + 0) l
@@ -48,6 +55,15 @@ blank-more l first x h =
     (length-append (take first l) _ ∙ omega (arith, length-take-le first l (omega arith), length-replicate {A = ℕ} x 0))
     h
     ∙ rw (e, replicate-more x 0, ← append-assoc (take first l) (replicate x 0) (0 ∷ [])) refl
+
+-- what the zeros leave as it was
+pub blank-keeps : (d d′ : List ℕ) (first x : ℕ) → first + x ≤ length d → d′ ≡ (take first d ++ replicate x 0) ++ drop (first + x) d
+    → (take first d′ ≡ take first d) × ((k : ℕ) → first + x ≤ k → drop k d′ ≡ drop k d)
+blank-keeps d d′ first x h e =
+    let long = length-take-le first d (omega arith) in (
+      rw (e, append-assoc (take first d) (replicate x 0) (drop (first + x) d)) (take-at (take first d) _ first long),
+      λ k l. rw e (drop-front (take first d ++ replicate x 0) d (first + x) k (length-append (take first d) _ ∙ omega (arith, long, length-replicate {A = ℕ} x 0)) l),
+    )
 
 pub length-unrank : (m : List ℕ) (r : ℕ) → length (unrank m r) ≡ length m
 unfolding unrank
@@ -182,6 +198,12 @@ module _ (m : Cut) (full : FullCut m) (eight : length (m .counts) ≡ 8) where
   pub drop-topAt : (j : ℕ) → drop (m .n) (topAt m j) ≡ drop (m .n) (replicate 8 0)
   drop-topAt j = rw (← topAt-digits j) (drop-at (tab (m .n) (digitAt (m .counts) j)) _ (m .n) (length-tab (m .n) _))
 
+  -- the counts of a row, whatever their first is, are eight, and 0 beyond n
+  pub topAt-kept : (top c : List ℕ) (j x : ℕ) → top ≡ topAt m j → c ≡ set top 0 x → (length c ≡ 8) × (drop (m .n) c ≡ drop (m .n) (replicate 8 0))
+  unfolding topAt
+  topAt-kept top c j x e f =
+      rw (f, e) (simp length-set (length-tab 8 _), drop-set-lt (m .n) _ 0 x (full .some-station) ∙ drop-topAt j)
+
   -- station 1 and the others
   countsOf-cons : countsOf m ≡ at (m .counts) 0 ∷ drop 1 (countsOf m)
   countsOf-cons = cons-of (countsOf m) (omega (arith, length-countsOf, full .some-station)) ∙ rw (at-countsOf m 0 (full .some-station)) refl
@@ -219,10 +241,3 @@ module _ (m : Cut) (full : FullCut m) (eight : length (m .counts) ≡ 8) where
 -- where the next row begins
 pub row-next : (w j r : ℕ) → r ≡ (w + 1) * j → r + (w + 1) ≡ (w + 1) * (j + 1)
 row-next w j r e = omega arith
-
--- the rest of a list whose first k are xs
-pub drop-front : (xs d : List ℕ) (k n : ℕ) → length xs ≡ k → k ≤ n → drop n (xs ++ drop k d) ≡ drop n d
-drop-front xs d k n e h =
-    let a : n ≡ length xs + (n - k) = omega arith in
-    let b : k + (n - k) ≡ n = omega arith in
-    ap (λ (i : ℕ). drop i (xs ++ drop k d)) a ∙ drop-append-add xs (drop k d) (n - k) ∙ drop-drop (n - k) k d ∙ ap (λ (i : ℕ). drop i d) b

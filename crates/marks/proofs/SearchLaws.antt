@@ -2,15 +2,15 @@
 -- apart; first and any; the largest; steps back on eight counts. Assumes nothing.
 use mathlib.Core.Path.{_≡_, refl, sym, ap, ap₂, _∙_}
 use mathlib.Core.Bool.{Bool, true, false, _&&_, cond, false≢true}
-use mathlib.Core.Logic.{_⊎_, inl, inr, ⊎-elim}
+use mathlib.Core.Logic.{⊎-elim}
 use mathlib.Core.List.{List, [], _∷_}
-use Prim.Native.Nat.{ℕ, zero, suc, _+_, _-_, _≤_, _<_, min, max}
+use Prim.Native.Nat.{ℕ, zero, suc, _+_, _-_, _≤_, _<_, max}
 use native.Mathlib.Nat.{not-suc-le-zero, le-of-suc-le-suc, le-antisymm}
-use native.Mathlib.Decide.{decLe, decLt}
+use native.Mathlib.Decide.{decLt}
 use native.Mathlib.Numerals.{add-one}
 use native.Mathlib.Omega.{arith}
-use lib.Dec.{leb, ltb, eqb}
-use lib.ListN.{length, take, List·getD-eq-default}
+use lib.Dec.{leb, ltb}
+use lib.ListN.{length, take}
 use borrow.Author.Tests.{leb-true, le-leb}
 use Rattle.cuts.specs.Below.{every, firstFrom, first, any, sumTo}
 use Rattle.cuts.specs.Cut.{at, back}
@@ -62,23 +62,6 @@ first-none f n h = go (decLt (first f n) n)
     go : Dec (first f n < n) → first f n ≡ n
     go (yes k) = absurd (false≢true (sym (h (first f n) k) ∙ first-is f n .passes k))
     go (no k) = le-antisymm (first-is f n .high) (omega arith)
-
--- the lower of two ends is one of them
-pub end-reached : (length size r : ℕ) → min length size ≤ r → (size ≤ r) ⊎ (length ≤ r)
-end-reached length size r h = go (decLe size r)
-  where
-    go : Dec (size ≤ r) → (size ≤ r) ⊎ (length ≤ r)
-    go (yes k) = inl k
-    go (no k) = inr (omega arith)
-
--- no rank is marked 1 where none below r is and r is the end of the marks or of the box
-pub one-none : (marks : List ℕ) (size r : ℕ) → (size ≤ r) ⊎ (length marks ≤ r) → ((q : ℕ) → q < r → eqb (at marks q) 1 ≡ false)
-    → (q : ℕ) → q < size → eqb (at marks q) 1 ≡ false
-one-none marks size r e h q l = go (decLt q r)
-  where
-    go : Dec (q < r) → eqb (at marks q) 1 ≡ false
-    go (yes k) = h q k
-    go (no k) = ⊎-elim (λ s. absurd (omega arith)) (λ s. rw (List·getD-eq-default marks 0 {n = q} (omega arith)) refl) e
 
 firstFrom-same : (f g : ℕ → Bool) (n p : ℕ) → ((q : ℕ) → q < p + n → f q ≡ g q) → firstFrom f n p ≡ firstFrom g n p
 unfolding firstFrom

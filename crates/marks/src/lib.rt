@@ -1,40 +1,45 @@
-// The marks of a box from flat tables, and the witness and the path read off them.
+// The marks of a box from flat tables, and the verdicts, the witness and the path read off them.
 // A box is filled row by row of station 1: the cuts of a row differ in their first count only, and what the other stations need and add is worked out once a row.
 ghost use mathlib.Core.Path.{_≡_};
-ghost use mathlib.Core.Bool.{_&&_, cond};
+ghost use mathlib.Core.Bool.{_&&_, not, cond};
 ghost use mathlib.Core.List.{_++_};
 ghost use Prim.Native.Nat.{_+_, _-_, _≤_, _<_, min, max};
 ghost use lib.Dec.{ltb, eqb};
-ghost use lib.ListN.{length, take, drop, replicate};
+ghost use lib.ListN.{length, take, drop, set, replicate};
 ghost use Rattle.cuts.specs.Below.{every, first};
 ghost use Rattle.cuts.specs.Cut.{at, back, total};
-ghost use Rattle.cuts.specs.Rank.{box, rank, unrank};
+ghost use Rattle.cuts.specs.Rank.{box, unrank};
 ghost use Rattle.cut.specs.Value.{countsOf, FullCut};
-ghost use Rattle.marks.specs.Flat.{rowMet, between, rowThere, fillable, filled, cutOfCounts, witnessOf, walkable, walked};
-ghost use Rattle.marks.specs.Rows.{cutWith, topAt, stridesOf, leadsBack, StepsBack, Eights, NeedsThere, WeightsThere, othersMet, othersNeed, othersAdd, marksTo, Ready, RowAt, rowMark, rowMarks, CutReady, RowReady, wayTo};
+ghost use Rattle.marks.specs.Flat.{rowMet, between, rowThere, cutOfCounts, noWitness, settledOf, witnessOf, avoided, walked, Settles};
+ghost use Rattle.marks.specs.Rows.{cutWith, topAt, stridesOf, leadsBack, StepsBack, RowsThere, othersOf, taskOf, marksTo, Ready, cutMark, rowMarks, CutReady, RowReady, sizeOf};
 use cut::Cut;
-use cut::Moved;
 
-// What a box is filled for: the recording's full cut, where each station's rows begin, and from where to where a sum satisfies.
-struct Task {
-    full: Cut,
-    bases: [usize; 8],
+// What is settled: whether the box could be, Poss with its witness (the start where Poss is no), and Def.
+pub struct Settled {
+    pub done: bool,
+    pub poss: bool,
+    pub witness: Cut,
+    pub def: bool,
+}
+
+// What the rows of a box have in common: the stations, the cuts of a row, where station 1's rows of the tables begin, and from where to where a sum satisfies.
+struct Frame {
+    n: usize,
+    width: usize,
+    base: usize,
     least: usize,
     most: usize,
 }
 
-// What the cuts of a row have in common: the stations, where station 1's rows begin, how many of its events the others need, what they add, and the asked sums.
-struct Row {
-    n: usize,
-    base: usize,
+// What the stations but the first ask of the cuts of a row and add to them: so many events of station 1, more than it can have where a row of theirs is not met.
+struct Others {
     low: usize,
     sum: usize,
-    least: usize,
-    most: usize,
 }
 
-// The marks of the box into the front of the room; whether the box is one that can be filled.
-pub fn fill(
+// The marks of the box into the front of their room, the verdicts read off them, and where Def is no the path into the front of its room.
+// Where the box is none that can be settled the rooms stay as they were.
+pub fn settle(
     full: Cut,
     bases: [usize; 8],
     least: usize,
@@ -42,118 +47,104 @@ pub fn fill(
     needs: &[u16],
     weights: &[u16],
     marks: &mut [u8],
-) -> bool
-    ensures { λ r. ⌜ (r ≡ fillable full bases least most (now (needs .entry)) (now (weights .entry)) (length (now (marks .entry)))) × (now (marks .exit) ≡ filled full bases least most (now (needs .entry)) (now (weights .entry)) (now (marks .entry))) ⌝ }
+    path: &mut [u8],
+) -> Settled
+    ensures { λ r. ⌜ Settles full bases least most (now (needs .entry)) (now (weights .entry)) (now (marks .entry)) (now (path .entry)) r (now (marks .exit)) (now (path .exit)) ⌝ }
+{
+    let size = size_of(
+        full,
+        bases,
+        needs.len(),
+        weights.len(),
+        marks.len(),
+        path.len(),
+    );
+    if size < 1 {
+        return no_witness(false, full.n, false);
+    }
+    fill(full, bases, least, most, needs, weights, marks, size);
+    let def = walk(full, marks, path, size);
+    read_off(full, marks, size, def)
+}
+
+// The size of a box that can be settled, else 0.
+fn size_of(
+    full: Cut,
+    bases: [usize; 8],
+    cells: usize,
+    rows: usize,
+    marks: usize,
+    path: usize,
+) -> usize
+    ensures { λ r. ⌜ r ≡ sizeOf full bases cells rows marks path ⌝ }
 {
     let size = cut::box_of(full);
     if size < 1 {
-        return false;
+        return 0;
     }
     if 65536 < size {
-        return false;
+        return 0;
     }
-    if marks.len() < size {
-        return false;
+    if marks < size {
+        return 0;
     }
-    if !covered(full, bases, needs.len(), weights.len()) {
-        return false;
+    if path < total_of(full) {
+        return 0;
     }
-    let task = Task {
-        full: full,
-        bases: bases,
-        least: least,
-        most: most,
-    };
-    fill_rows(task, needs, weights, marks, size);
-    true
-}
-
-// The cut of the lowest rank that is marked 1, or that there is none, and then the start.
-pub fn witness(full: Cut, marks: &[u8]) -> Moved
-    ensures { λ r. ⌜ r ≡ witnessOf full (now (marks .entry)) ⌝ }
-{
-    let none = Moved {
-        found: false,
-        cut: Cut {
-            counts: [0u16; 8],
-            n: full.n,
-        },
-    };
-    let size = cut::box_of(full);
-    if 65536 < size {
-        return none;
+    if !covered(full, bases, cells, rows) {
+        return 0;
     }
-    let r = first_one(marks, size);
-    if size <= r {
-        return none;
-    }
-    let cut = cut_of(full, r);
-    Moved {
-        found: true,
-        cut: cut,
-    }
-}
-
-// The way back from the full cut through marks of 3, as station numbers, into the front of the room; whether there is one and the room has it.
-pub fn walk(full: Cut, marks: &[u8], path: &mut [u8]) -> bool
-    ensures { λ r. ⌜ (r ≡ walkable full (now (marks .entry)) (length (now (path .entry)))) × (now (path .exit) ≡ walked full (now (marks .entry)) (now (path .entry))) ⌝ }
-{
-    let size = cut::box_of(full);
-    if size < 1 {
-        return false;
-    }
-    if 65536 < size {
-        return false;
-    }
-    if marks.len() < size {
-        return false;
-    }
-    let last = size - 1;
-    if marks[last] != 3 {
-        return false;
-    }
-    let total = total_of(full);
-    if path.len() < total {
-        return false;
-    }
-    walk_back(full, marks, path, last, total);
-    true
+    size
 }
 
 // All rows of the box.
-fn fill_rows(task: Task, needs: &[u16], weights: &[u16], marks: &mut [u8], size: usize)
-    requires { ⌜ Ready task (now needs) (now weights) (length (now marks)) × (size ≡ box (countsOf (task .full))) ⌝ }
-    ensures { λ _. ⌜ now (marks .exit) ≡ marksTo task (now (needs .entry)) (now (weights .entry)) size ++ drop size (now (marks .entry)) ⌝ }
+fn fill(
+    full: Cut,
+    bases: [usize; 8],
+    least: usize,
+    most: usize,
+    needs: &[u16],
+    weights: &[u16],
+    marks: &mut [u8],
+    size: usize,
+)
+    requires { ⌜ Ready (taskOf full bases least most) (now needs) (now weights) (length (now marks)) × (size ≡ box (countsOf full)) ⌝ }
+    ensures { λ _. ⌜ now (marks .exit) ≡ marksTo (taskOf full bases least most) (now (needs .entry)) (now (weights .entry)) size ++ drop size (now (marks .entry)) ⌝ }
 {
-    let full = task.full;
-    let bases = task.bases;
     let events = full.counts;
     let n = full.n as usize;
-    let strides = strides_of(full);
     let width = wide(events[0]) + 1;
+    let frame = Frame {
+        n: n,
+        width: width,
+        base: bases[0],
+        least: least,
+        most: most,
+    };
+    let strides = strides_of(full);
     let mut counts = [0u16; 8];
     let mut j: usize = 0;
-    let mut r: usize = 0;
-    while r < size {
+    let mut first: usize = 0;
+    while first < size {
         lay_top(&events, n, j, &mut counts);
         fill_row(
-            task,
+            frame,
             needs,
             weights,
             &bases,
             &strides,
             marks,
             &mut counts,
-            r,
+            first,
         );
         j += 1;
-        r += width;
+        first += width;
     }
 }
 
-// The row from rank first on, whose last cut has these counts.
+// The row from rank first on, whose last cut has these counts; the first of them changes. The cuts with too few events of station 1 for the others are blank.
 fn fill_row(
-    task: Task,
+    frame: Frame,
     needs: &[u16],
     weights: &[u16],
     bases: &[usize],
@@ -162,27 +153,32 @@ fn fill_row(
     counts: &mut [u16],
     first: usize,
 )
-    requires { ⌜ Ready task (now needs) (now weights) (length (now marks)) × RowAt (task .full) (now counts) first × (now bases ≡ task .bases) × (now strides ≡ stridesOf (task .full)) × (take first (now marks) ≡ marksTo task (now needs) (now weights) first) ⌝ }
-    ensures { λ _. ⌜ (now (marks .exit) ≡ marksTo task (now (needs .entry)) (now (weights .entry)) (first + (at (now (counts .entry)) 0 + 1)) ++ drop (first + (at (now (counts .entry)) 0 + 1)) (now (marks .entry))) × (now (counts .exit) ≡ now (counts .entry)) ⌝ }
+    requires { ⌜ RowReady frame (now needs) (now weights) (now bases) (now strides) (length (now marks)) (now counts) first ⌝ }
+    ensures { λ _. ⌜ (now (marks .exit) ≡ rowMarks frame (othersOf (frame .n) (now (bases .entry)) (now (needs .entry)) (now (weights .entry)) (now (counts .entry))) (now (needs .entry)) (now (weights .entry)) (now (strides .entry)) (now (counts .entry)) first (take first (now (marks .entry))) (frame .width) ++ drop (first + frame .width) (now (marks .entry))) × (now (counts .exit) ≡ set (now (counts .entry)) 0 (at (now (counts .exit)) 0)) ⌝ }
 {
-    let full = task.full;
-    let n = full.n as usize;
-    if !others_met(needs, bases, counts, n) {
-        blank_row(marks, first, wide(counts[0]) + 1);
-        return;
+    let others = others_of(needs, weights, bases, counts, frame.n);
+    let width = frame.width;
+    let mut x = lower(others.low, width);
+    blank_row(marks, first, x);
+    while x < width {
+        let r = first + x;
+        counts[0] = x as u16;
+        marks[r] = mark(
+            frame,
+            others.sum,
+            needs,
+            weights,
+            strides,
+            marks,
+            counts,
+            x,
+            r,
+        );
+        x += 1;
     }
-    let row = Row {
-        n: n,
-        base: bases[0],
-        low: others_need(needs, bases, counts, n),
-        sum: others_add(weights, bases, counts, n),
-        least: task.least,
-        most: task.most,
-    };
-    mark_row(row, needs, weights, strides, marks, counts, first);
 }
 
-// A row none of whose cuts is consistent: zeros from rank first on.
+// Zeros in the marks of so many cuts of a row, from rank first on.
 fn blank_row(marks: &mut [u8], first: usize, width: usize)
     requires { ⌜ first + width ≤ length (now marks) ⌝ }
     ensures { λ _. ⌜ now (marks .exit) ≡ (take first (now (marks .entry)) ++ replicate width 0) ++ drop (first + width) (now (marks .entry)) ⌝ }
@@ -195,32 +191,10 @@ fn blank_row(marks: &mut [u8], first: usize, width: usize)
     }
 }
 
-// The row from rank first on, cut by cut; the counts are at the row's last cut again.
-fn mark_row(
-    row: Row,
-    needs: &[u16],
-    weights: &[u16],
-    strides: &[usize],
-    marks: &mut [u8],
-    counts: &mut [u16],
-    first: usize,
-)
-    requires { ⌜ RowReady row (now needs) (now weights) (now strides) (length (now marks)) (now counts) first ⌝ }
-    ensures { λ _. ⌜ (now (marks .exit) ≡ rowMarks row (now (needs .entry)) (now (weights .entry)) (now (strides .entry)) (now (counts .entry)) first (take first (now (marks .entry))) (at (now (counts .entry)) 0 + 1) ++ drop (first + (at (now (counts .entry)) 0 + 1)) (now (marks .entry))) × (now (counts .exit) ≡ now (counts .entry)) ⌝ }
-{
-    let width = wide(counts[0]) + 1;
-    let mut x: usize = 0;
-    while x < width {
-        let r = first + x;
-        counts[0] = x as u16;
-        marks[r] = mark(row, needs, weights, strides, marks, counts, x, r);
-        x += 1;
-    }
-}
-
-// The mark of the cut with these counts, the first of which is x, and rank r, from those of the ranks below.
+// The mark of the cut with these counts, the first of which is x, and rank r, from those of the ranks below; the other stations are met, and add sum.
 fn mark(
-    row: Row,
+    frame: Frame,
+    sum: usize,
     needs: &[u16],
     weights: &[u16],
     strides: &[usize],
@@ -229,18 +203,15 @@ fn mark(
     x: usize,
     r: usize,
 ) -> u8
-    requires { ⌜ CutReady row (now needs) (now weights) (now strides) (length (now marks)) (now counts) x r ⌝ }
-    ensures { λ b. ⌜ b ≡ rowMark row (now (needs .entry)) (now (weights .entry)) (now (strides .entry)) (now (marks .entry)) (now (counts .entry)) x r ⌝ }
+    requires { ⌜ CutReady frame (now needs) (now weights) (now strides) (length (now marks)) (now counts) x r × (sum ≤ 524280) ⌝ }
+    ensures { λ b. ⌜ b ≡ cutMark frame sum (now (needs .entry)) (now (weights .entry)) (now (strides .entry)) (now (marks .entry)) (now (counts .entry)) x r ⌝ }
 {
-    if x < row.low {
-        return 0;
-    }
-    let at = row.base + x;
-    let n = row.n;
+    let at = frame.base + x;
+    let n = frame.n;
     if !row_met(needs, 8 * at, counts, n) {
         return 0;
     }
-    if is_between(row.least, row.most, row.sum + wide(weights[at])) {
+    if is_between(frame.least, frame.most, sum + wide(weights[at])) {
         return 1;
     }
     if r == 0 {
@@ -252,55 +223,25 @@ fn mark(
     2
 }
 
-// Whether the rows of the stations but the first need no more than the counts.
-fn others_met(needs: &[u16], bases: &[usize], counts: &[u16], n: usize) -> bool
-    requires { ⌜ NeedsThere n (now bases) (now needs) (now counts) × Eights n (now bases) (now counts) ⌝ }
-    ensures { λ r. ⌜ r ≡ othersMet n (now (bases .entry)) (now (needs .entry)) (now (counts .entry)) ⌝ }
+// What the stations but the first ask and add at the cut with these counts.
+fn others_of(needs: &[u16], weights: &[u16], bases: &[usize], counts: &[u16], n: usize) -> Others
+    requires { ⌜ RowsThere n (now bases) (now needs) (now weights) (now counts) ⌝ }
+    ensures { λ o. ⌜ (o ≡ othersOf n (now (bases .entry)) (now (needs .entry)) (now (weights .entry)) (now (counts .entry))) × (o .sum ≤ 524280) ⌝ }
 {
-    let others = n - 1;
-    let mut i: usize = 0;
-    while i < others {
-        let p = i + 1;
-        if !row_met(needs, 8 * (bases[p] + wide(counts[p])), counts, n) {
-            return false;
-        }
-        i += 1;
-    }
-    true
-}
-
-// How many events of station 1 the rows of the others need.
-fn others_need(needs: &[u16], bases: &[usize], counts: &[u16], n: usize) -> usize
-    requires { ⌜ NeedsThere n (now bases) (now needs) (now counts) × Eights n (now bases) (now counts) ⌝ }
-    ensures { λ r. ⌜ r ≡ othersNeed n (now (bases .entry)) (now (needs .entry)) (now (counts .entry)) ⌝ }
-{
-    let others = n - 1;
     let mut low: usize = 0;
-    let mut i: usize = 0;
-    while i < others {
-        let p = i + 1;
-        let at = 8 * (bases[p] + wide(counts[p]));
-        low = higher(low, wide(needs[at]));
-        i += 1;
-    }
-    low
-}
-
-// What the stations but the first add.
-fn others_add(weights: &[u16], bases: &[usize], counts: &[u16], n: usize) -> usize
-    requires { ⌜ WeightsThere n (now bases) (now weights) (now counts) × Eights n (now bases) (now counts) ⌝ }
-    ensures { λ r. ⌜ (r ≡ othersAdd n (now (bases .entry)) (now (weights .entry)) (now (counts .entry))) × (r ≤ 524280) ⌝ }
-{
-    let others = n - 1;
     let mut sum: usize = 0;
-    let mut i: usize = 0;
-    while i < others {
-        let p = i + 1;
+    let mut p: usize = 1;
+    while p < n {
         let at = bases[p] + wide(counts[p]);
+        let from = 8 * at;
+        if !row_met(needs, from, counts, n) {
+            return Others { low: 65536, sum: 0 };
+        }
+        low = higher(low, wide(needs[from]));
         sum = sum + wide(weights[at]);
-        i += 1;
+        p += 1;
     }
-    sum
+    Others { low: low, sum: sum }
 }
 
 // Whether the row of needs that starts at place from asks no more than the counts.
@@ -362,6 +303,54 @@ fn lay_top(events: &[u16], n: usize, j: usize, counts: &mut [u16])
         left = left / k;
         i += 1;
     }
+}
+
+// The reply off the marks of a box, Def being known: the witness is the cut of the lowest rank that is marked 1.
+fn read_off(full: Cut, marks: &[u8], size: usize, def: bool) -> Settled
+    requires { ⌜ FullCut full × (size ≡ box (countsOf full)) × (size ≤ length (now marks)) ⌝ }
+    ensures { λ r. ⌜ r ≡ settledOf (full .n) (witnessOf full (now (marks .entry))) def ⌝ }
+{
+    let r = first_one(marks, size);
+    if size <= r {
+        return no_witness(true, full.n, def);
+    }
+    let cut = cut_of(full, r);
+    Settled {
+        done: true,
+        poss: true,
+        witness: cut,
+        def: def,
+    }
+}
+
+// The reply without a witness, the start in its place.
+fn no_witness(done: bool, n: u8, def: bool) -> Settled
+    ensures { λ r. ⌜ r ≡ noWitness done n def ⌝ }
+{
+    Settled {
+        done: done,
+        poss: false,
+        witness: Cut {
+            counts: [0u16; 8],
+            n: n,
+        },
+        def: def,
+    }
+}
+
+// The first of the first size ranks that is marked 1, or size.
+fn first_one(marks: &[u8], size: usize) -> usize
+    requires { ⌜ size ≤ length (now marks) ⌝ }
+    ensures { λ r. ⌜ r ≡ first (λ r. eqb (at (now (marks .entry)) r) 1) size ⌝ }
+{
+    let mut r: usize = 0;
+    while r < size {
+        if marks[r] == 1 {
+            return r;
+        }
+        r += 1;
+    }
+    size
 }
 
 // The cut of rank r.
@@ -429,31 +418,19 @@ fn row_there(base: usize, e: usize, cells: usize, rows: usize) -> bool
     base + e < cells / 8
 }
 
-// The first of the first size ranks that is marked 1, or size.
-fn first_one(marks: &[u8], size: usize) -> usize
-    ensures { λ r. ⌜ r ≡ first (λ r. eqb (at (now (marks .entry)) r) 1) size ⌝ }
+// Whether the full cut is marked other than 3; where it is marked 3 the way back from it, as station numbers, into the front of the room.
+fn walk(full: Cut, marks: &[u8], path: &mut [u8], size: usize) -> bool
+    requires { ⌜ FullCut full × (box (countsOf full) ≤ 65536) × (size ≡ box (countsOf full)) × (size ≤ length (now marks)) × (total (countsOf full) ≤ length (now path)) ⌝ }
+    ensures { λ r. ⌜ (r ≡ not (avoided full (now (marks .entry)))) × (now (path .exit) ≡ walked full (now (marks .entry)) (now (path .entry))) ⌝ }
 {
-    let end = lower(marks.len(), size);
-    let mut r: usize = 0;
-    while r < end {
-        if marks[r] == 1 {
-            return r;
-        }
-        r += 1;
+    let mut r = size - 1;
+    if marks[r] != 3 {
+        return true;
     }
-    size
-}
-
-// The walk back from the full cut, whose rank is last, over all of its events.
-fn walk_back(full: Cut, marks: &[u8], path: &mut [u8], last: usize, events: usize)
-    requires { ⌜ FullCut full × (box (countsOf full) ≤ 65536) × (box (countsOf full) ≤ length (now marks)) × (last ≡ rank (countsOf full) (countsOf full)) × (events ≤ length (now path)) ⌝ }
-    ensures { λ _. ⌜ now (path .exit) ≡ wayTo (countsOf full) (now (marks .entry)) events (countsOf full) ++ drop events (now (path .entry)) ⌝ }
-{
     let n = full.n as usize;
     let strides = strides_of(full);
     let mut counts = full.counts;
-    let mut r = last;
-    let mut k = events;
+    let mut k = total_of(full);
     while 0 < k {
         let p = first_back(marks, &counts, &strides, r, n);
         k -= 1;
@@ -462,6 +439,7 @@ fn walk_back(full: Cut, marks: &[u8], path: &mut [u8], last: usize, events: usiz
         let next = count_back(counts, p);
         counts = next;
     }
+    false
 }
 
 // The rank after a step back of the station at place p, the same where there is no such station.

@@ -1,95 +1,157 @@
--- The size is the box of a full cut within its limit; each test refuses one part of what makes a box fillable.
-use mathlib.Core.Path.{sym, _∙_}
-use mathlib.Core.Bool.{false≢true}
+-- After j rows the marks of the first width * j ranks are the lattice's; a row that begins below the box lies in it.
+use mathlib.Core.Path.{_≡_, refl, sym, ap, _∙_}
+use mathlib.Core.List.{_++_}
+use Prim.Native.Nat.{_-_, _*_, _≤_}
+use native.Mathlib.Nat.{le-antisymm}
 use native.Mathlib.Omega.{arith}
-use lib.ListN.{length}
-use mir.Syntax.{w64}
-use borrow.Kind.Array.{eInt, good-length}
-use borrow.Author.Tests.{not-true}
-use Rattle.cut.specs.Value.{countsOf}
-use Rattle.cuts.proofs.RankLaws.{box-pos}
-use Rattle.cut.proofs.ValueLaws.{eight-counts}
-use Rattle.cut.proofs.ValueRight.{boxOf-full}
-use Rattle.marks.specs.Rows.{marksTo}
-use Rattle.marks.proofs.FlatLaws.{sized, box-size, fillable-at, filled-none, filled-some, ready-of}
+use lib.ListN.{length, drop, replicate}
+use Rattle.cuts.specs.Computed.{tabled}
+use Rattle.marks.specs.Rows.{cutWith, taskOf, marksTo}
+use Rattle.marks.proofs.RowLaws.{rowAt-here, row-next, topAt-kept}
+use Rattle.marks.proofs.BackLaws.{length-stridesOf}
+use Rattle.marks.proofs.FillLaws.{row-ready, row-marked}
 use borrow.Author.Needs.{needs}
 use Rattle.marks.proofs.fill.Statement.{statement}
 use Rattle.marks.proofs.fill.Tie as tie
 
-box-of-requires : tie.Need-box-of-requires
-box-of-requires c κs = search needs
+abbrev Inv-loop : tie.InvT-loop
+Inv-loop least most needs weights marks₀ size bases events n width frame strides counts₀ j₀ first₀ marks counts j first =
+    (first ≤ size) × (j ≤ first) × (first ≡ width * j) × (length marks ≡ length marks₀)
+    × (marks ≡ marksTo (taskOf (cutWith n events) bases least most) needs weights first ++ drop first marks₀)
+    × (length counts ≡ 8) × (drop n counts ≡ drop n (replicate 8 0))
 
-returns : tie.Need-returns
-returns c =
-    let start = c .before .before .before .before .before in
-    filled-none _ _ _ _ _ _ _ (λ f. omega (arith, boxOf-full (start .args .full) (f .full), box-pos (countsOf (start .args .full))))
+abbrev μ-loop : tie.MeasureT-loop
+μ-loop least most needs weights marks₀ size bases events n width frame strides counts₀ j₀ first₀ marks counts j first = size - first
 
-returns-2 : tie.Need-returns-2
-returns-2 c =
+cast-n : tie.Need-cast-n Inv-loop μ-loop
+cast-n c = search needs
+
+array-read-wide : tie.Need-array-read-wide Inv-loop μ-loop
+array-read-wide c = search needs
+
+wide-requires : tie.Need-wide-requires Inv-loop μ-loop
+wide-requires c κs = search needs
+
+add-width : tie.Need-add-width Inv-loop μ-loop
+add-width c = search needs
+
+array-read-t18 : tie.Need-array-read-t18 Inv-loop μ-loop
+array-read-t18 c = search needs
+
+strides-of-requires : tie.Need-strides-of-requires Inv-loop μ-loop
+strides-of-requires c κs =
     let start = c .before .before .before .before .before .before in
-    filled-none _ _ _ _ _ _ _ (λ f. omega (arith, boxOf-full (start .args .full) (f .full), f .limit))
+    (start .pre .0 .full, start .pre .0 .limit)
 
-returns-3 : tie.Need-returns-3
-returns-3 c =
-    let start = c .before .before .before .before .before .before .before in
-    let box-of = c .before .before .before .box-of in
-    filled-none _ _ _ _ _ _ _
-    (λ f. omega (arith, box-size (start .args .full) (box-of .result) (box-of .ensures) (f .full) (f .limit), f .fits))
+loop-holds : tie.Need-loop-holds Inv-loop μ-loop
+unfolding marksTo tabled
+loop-holds c = (omega arith, omega arith, omega arith, refl, refl, refl, refl)
 
-covered-requires : tie.Need-covered-requires
-covered-requires c κs =
-    let start = c .before .before .before .before .before .before .before in
-    let box-of = c .before .before .before .box-of in
-    sized (start .args .full) (box-of .result) (box-of .ensures) (c .before .before .if1 .left) (c .before .if2 .left) .full .most-eight
-
-returns-4 : tie.Need-returns-4
-returns-4 c = filled-none _ _ _ _ _ _ _ (λ f. false≢true (sym (not-true _ (c .if4 .taken)) ∙ c .before .covered .ensures ∙ f .rows))
-
-fill-rows-requires : tie.Need-fill-rows-requires
-fill-rows-requires c κs =
+slice-aggregate-lay-top : tie.Need-slice-aggregate-lay-top Inv-loop μ-loop
+slice-aggregate-lay-top c =
     let start = c .before .before .before .before .before .before .before .before .before .before in
-    let box-of = c .before .before .before .before .before .before .box-of in
-    let if1 = c .before .before .before .before .before .if1 in
-    let if2 = c .before .before .before .before .if2 in
-    let s = sized (start .args .full) (box-of .result) (box-of .ensures) (if1 .left) (if2 .left) in
-    let f = fillable-at (start .args .bases) (start .args .needs .now) (start .args .weights .now) (start .args .marks .now) s (if2 .left) (c .before .before .before .if3 .left) (c .before .before .covered .ensures) (c .before .if4 .left) in (
-      ready-of (start .args .full) (start .args .bases) (start .args .least) (start .args .most) _ _ (length (start .args .marks .now))
-          f
-          (eight-counts (start .args .full) _ (start .good .0))
-          (good-length (eInt w64) 8 (start .args .bases) _ (start .good .1 .0)),
-      s .is-box,
+    sym (start .pre .0 .rows .eight)
+
+slice-aggregate-lay-top-2 : tie.Need-slice-aggregate-lay-top-2 Inv-loop μ-loop
+slice-aggregate-lay-top-2 c = sym (c .before .before .before .loop .inv .5)
+
+lay-top-requires : tie.Need-lay-top-requires Inv-loop μ-loop
+lay-top-requires c κs =
+    let start = c .before .before .before .before .before .before .before .before .before .before .before in
+    let loop = c .before .before .before .loop in
+    (start .pre .0 .full, start .pre .0 .rows .eight, loop .inv .5, loop .inv .6)
+
+slice-aggregate-fill-row : tie.Need-slice-aggregate-fill-row Inv-loop μ-loop
+slice-aggregate-fill-row c =
+    let start = c .before .before .before .before .before .before .before .before .before .before .before .before .before .before in
+    sym (start .pre .0 .rows .starts)
+
+slice-aggregate-fill-row-2 : tie.Need-slice-aggregate-fill-row-2 Inv-loop μ-loop
+slice-aggregate-fill-row-2 c =
+    let start = c .before .before .before .before .before .before .before .before .before .before .before .before .before .before .before in
+    sym (ap length (c .before .before .before .before .before .before .before .before .strides-of .ensures) ∙ length-stridesOf (start .args .full) (start .pre .0 .full))
+
+slice-aggregate-fill-row-3 : tie.Need-slice-aggregate-fill-row-3 Inv-loop μ-loop
+slice-aggregate-fill-row-3 c = sym (c .before .before .before .before .before .lay-top .kept .1 .1 .1 .0 ∙ c .before .before .before .before .before .before .before .before .before .loop .inv .5)
+
+fill-row-requires : tie.Need-fill-row-requires Inv-loop μ-loop
+fill-row-requires c κs =
+    let test = c .before .before .before .before .before .before .before .before in
+    let loop = test .before .loop in
+    let strides-of = test .before .before .strides-of in
+    let wide = test .before .before .before .wide in
+    let start = test .before .before .before .before .before .before .before .before .before in
+    let ready = start .pre .0 in
+    let row =
+    rowAt-here (start .args .full) (ready .full) (ready .rows .eight) (wide .result) (loop .j) (loop .first) (wide .ensures .0) (loop .inv .2) (omega (arith, test .loop-test .taken, start .pre .1)) in
+    rw (loop .inv .3, c .before .before .before .before .before .lay-top .ensures) (row-ready _ _ _ _ ready _ _ row _ _ refl (strides-of .ensures) _ (wide .ensures .0))
+
+add-j : tie.Need-add-j Inv-loop μ-loop
+add-j c =
+    let start = c .before .before .before .before .before .before .before .before .before .before .before .before .before .before .before .before .before .before .before .before .before in
+    omega (arith, start .pre .0 .limit)
+
+add-first : tie.Need-add-first Inv-loop μ-loop
+add-first c =
+    let start = c .before .before .before .before .before .before .before .before .before .before .before .before .before .before .before .before .before .before .before .before .before in
+    omega (arith, start .pre .0 .limit)
+
+loop-less : tie.Need-loop-less Inv-loop μ-loop
+loop-less c = search needs
+
+loop-again : tie.Need-loop-again Inv-loop μ-loop
+loop-again c =
+    let test = c .before .before .before .before .before .before .before .before .before .before .before .before in
+    let loop = test .before .loop in
+    let strides-of = test .before .before .strides-of in
+    let wide = test .before .before .before .wide in
+    let start = test .before .before .before .before .before .before .before .before .before in
+    let ready = start .pre .0 in
+    let row =
+    rowAt-here (start .args .full) (ready .full) (ready .rows .eight) (wide .result) (loop .j) (loop .first) (wide .ensures .0) (loop .inv .2) (omega (arith, test .loop-test .taken, start .pre .1)) in
+    let lay-top = c .before .before .before .before .before .before .before .before .before .lay-top in
+    let fill-row = c .before .before .before .fill-row in
+    let kept = topAt-kept (start .args .full) (ready .full) (ready .rows .eight) _ _ _ _ (lay-top .ensures) (fill-row .ensures .1) in (
+      omega (arith, row .within, wide .ensures .0, start .pre .1),
+      omega (arith, loop .inv .1),
+      row-next _ _ _ (loop .inv .2),
+      fill-row .kept .1 .1 .1 .1 .1 .0 ∙ loop .inv .3,
+      row-marked _ _ _ _ ready _ _ row _ _ refl (strides-of .ensures) _ (wide .ensures .0) _ _ _ (loop .inv .4) (rw (lay-top .ensures) at (fill-row .ensures .0)),
+      kept .0,
+      kept .1,
     )
 
-same-length : tie.Need-same-length
-same-length c = c .before .before .fill-rows .kept .1 .1 .1 .0
+same-length : tie.Need-same-length Inv-loop μ-loop
+same-length c = c .before .loop .inv .3
 
-returns-5 : tie.Need-returns-5
-unfolding marksTo
-returns-5 c =
-    let start = c .before .before .before .before .before .before .before .before .before .before .before .before .before in
-    let box-of = c .before .before .before .before .before .before .before .before .before .box-of in
-    let if1 = c .before .before .before .before .before .before .before .before .if1 in
-    let if2 = c .before .before .before .before .before .before .before .if2 in
-    let if3 = c .before .before .before .before .before .before .if3 in
-    let covered = c .before .before .before .before .before .covered in
-    let if4 = c .before .before .before .before .if4 in
-    let s = sized (start .args .full) (box-of .result) (box-of .ensures) (if1 .left) (if2 .left) in
-    let f = fillable-at (start .args .bases) (start .args .needs .now) (start .args .weights .now) (start .args .marks .now) s (if2 .left) (if3 .left) (covered .ensures) (if4 .left) in
-    let w =
-    filled-some (start .args .full) (start .args .bases) (start .args .least) (start .args .most) _ _ (start .args .marks .now)
-    f in
-    (w .0, rw (s .is-box) at (c .before .before .fill-rows .ensures) ∙ w .1)
+returns : tie.Need-returns Inv-loop μ-loop
+returns c =
+    let loop = c .before .loop in
+    rw (le-antisymm (loop .inv .0) (c .loop-test .left)) at (loop .inv .4)
 
 pub fill-spec : {M : Type 1} → statement M
 fill-spec =
     tie.close
     (tie.spec
-    box-of-requires
-    returns
-    returns-2
-    returns-3
-    covered-requires
-    returns-4
-    fill-rows-requires
+    Inv-loop
+    μ-loop
+    cast-n
+    array-read-wide
+    wide-requires
+    add-width
+    array-read-t18
+    strides-of-requires
+    loop-holds
+    slice-aggregate-lay-top
+    slice-aggregate-lay-top-2
+    lay-top-requires
+    slice-aggregate-fill-row
+    slice-aggregate-fill-row-2
+    slice-aggregate-fill-row-3
+    fill-row-requires
+    add-j
+    add-first
+    loop-less
+    loop-again
     same-length
-    returns-5)
+    returns)

@@ -1,118 +1,133 @@
--- Where the last cut of the row does not meet the others' rows no cut is consistent; else each cut's mark is the lattice's.
-use mathlib.Core.Path.{refl, ap}
-use Prim.Native.Nat.{_+_, _≤_}
+-- The front of the row is blank; after x turns the first x cuts have their marks, and the counts are those of the row but for the first.
+use mathlib.Core.Path.{_≡_, refl, sym, _∙_}
+use mathlib.Core.List.{_++_}
+use Prim.Native.Nat.{_+_, _-_, _≤_}
+use native.Mathlib.Nat.{le-antisymm}
 use native.Mathlib.Omega.{arith}
-use lib.ListN.{length}
-use borrow.Author.Tests.{not-true, not-false}
-use Rattle.marks.proofs.FillLaws.{needs-there, weights-there, row-ready, row-blank, row-marked}
+use lib.ListN.{length, take, drop, set, length-set}
+use lib.Seq.{set-getD, getD-set-same}
+use Rattle.cuts.specs.Cut.{at}
+use Rattle.marks.specs.Rows.{rowMarks}
+use Rattle.marks.proofs.MarkLaws.{set-first, rowMarks-start, rowMarks-more, rowMarks-end}
 use borrow.Author.Needs.{needs}
 use Rattle.marks.proofs.fill_row.Statement.{statement}
 use Rattle.marks.proofs.fill_row.Tie as tie
 
-cast-n : tie.Need-cast-n
-cast-n c = search needs
+abbrev Inv-loop : tie.InvT-loop
+Inv-loop frame needs weights bases strides marks₀ counts₀ first others width x₀ marks counts x =
+    (x₀ ≤ x) × (x ≤ width) × (length marks ≡ length marks₀) × (length counts ≡ 8) × (counts ≡ set counts₀ 0 (at counts 0))
+    × (marks ≡ rowMarks frame others needs weights strides counts₀ first (take first marks₀) x ++ drop (first + x) marks₀)
 
-others-met-requires : tie.Need-others-met-requires
-others-met-requires c κs =
-    let start = c .before .before .before .before .before .before .before .before .before in
-    let pre = start .pre in
-    needs-there _ _ _ _ (pre .0) _ _ (pre .1) _ (pre .2)
+abbrev μ-loop : tie.MeasureT-loop
+μ-loop frame needs weights bases strides marks₀ counts₀ first others width x₀ marks counts x = width - x
 
-slice-read-wide : tie.Need-slice-read-wide
-slice-read-wide c =
-    let start = c .before .before .before .before .before .before .before .before .before .before .before .before .before in
-    omega (arith, start .pre .1 .eight)
+others-of-requires : tie.Need-others-of-requires Inv-loop μ-loop
+others-of-requires c κs = c .before .before .before .before .before .before .before .pre .rows
 
-wide-requires : tie.Need-wide-requires
-wide-requires c κs = search needs
+lower-requires : tie.Need-lower-requires Inv-loop μ-loop
+lower-requires c κs = search needs
 
-add-blank-row : tie.Need-add-blank-row
-add-blank-row c = search needs
-
-blank-row-requires : tie.Need-blank-row-requires
+blank-row-requires : tie.Need-blank-row-requires Inv-loop μ-loop
 blank-row-requires c κs =
-    let start = c .before .before .before .before .before .before .before .before .before .before .before .before .before .before in
-    let wide = c .wide in
-    let pre = start .pre in
-    let h : start .args .first + (wide .result + 1) ≤ length (start .args .marks .now) =
-    omega (arith, wide .ensures .0, pre .1 .within, pre .1 .last, pre .0 .fits) in
-    h
+    let start = c .before .before .before .before .before .before .before .before .before .before in
+    omega (arith, c .before .lower .ensures, start .pre .inside)
 
-same-length : tie.Need-same-length
-same-length c = search needs
-
-same-length-2 : tie.Need-same-length-2
-same-length-2 c = search needs
-
-returns : tie.Need-returns
-returns c =
-    let start = c .before .before .before .before .before .before .before .before .before .before .before .before .before .before .before .before .before in
-    let others-met = c .before .before .before .before .before .before .before .others-met in
-    let if1 = c .before .before .before .before .before .before .if1 in
-    let (ready, row, bases, _, front) = start .pre in (
-      row-blank _ _ _ _ ready _ _ row _ _ _ _ _ bases (others-met .ensures) (not-true _ (if1 .taken)) (c .before .before .before .wide .ensures .0) front (c .before .before .blank-row .ensures),
-      refl,
-    )
-
-shared-slice-read-t24 : tie.Need-shared-slice-read-t24
-shared-slice-read-t24 c =
-    let start = c .before .before .before .before .before .before .before .before .before .before .before .before in
-    omega (arith, ap length (start .pre .2), start .pre .0 .starts)
-
-others-need-requires : tie.Need-others-need-requires
-others-need-requires c κs =
+loop-holds : tie.Need-loop-holds Inv-loop μ-loop
+loop-holds c =
     let start = c .before .before .before .before .before .before .before .before .before .before .before .before .before in
-    let pre = start .pre in
-    needs-there _ _ _ _ (pre .0) _ _ (pre .1) _ (pre .2)
-
-others-add-requires : tie.Need-others-add-requires
-others-add-requires c κs =
-    let start = c .before .before .before .before .before .before .before .before .before .before .before .before .before .before .before in
-    let pre = start .pre in
-    weights-there _ _ _ _ (pre .0) _ _ (pre .1) _ (pre .2)
-
-mark-row-requires : tie.Need-mark-row-requires
-mark-row-requires c κs =
-    let start = c .before .before .before .before .before .before .before .before .before .before .before .before .before .before .before .before .before .before in
-    let pre = start .pre in
-    rw (pre .2, pre .3) (row-ready _ _ _ _ (pre .0) _ _ (pre .1) _ _ (c .before .before .others-add .ensures .1))
-
-same-length-3 : tie.Need-same-length-3
-same-length-3 c = search needs
-
-same-length-4 : tie.Need-same-length-4
-same-length-4 c = search needs
-
-returns-2 : tie.Need-returns-2
-returns-2 c =
-    let start = c .before .before .before .before .before .before .before .before .before .before .before .before .before .before .before .before .before .before .before .before .before .before .before in
-    let others-met = c .before .before .before .before .before .before .before .before .before .before .before .before .before .others-met in
-    let if1 = c .before .before .before .before .before .before .before .before .before .before .before .before .if1 in
-    let others-need = c .before .before .before .before .before .before .before .before .before .others-need in
-    let others-add = c .before .before .before .before .before .before .before .others-add in
-    let mark-row = c .before .before .before .before .mark-row in
-    let (ready, row, bases, strides, front) = start .pre in (
-      row-marked _ _ _ _ ready _ _ row _ _ _ _ _ _ _ bases strides (others-met .ensures) (not-false _ (if1 .left)) (others-need .ensures) (others-add .ensures .0) front (mark-row .ensures .0),
-      mark-row .ensures .1,
+    let lower = c .before .before .before .before .lower in (
+      omega arith,
+      omega (arith, lower .ensures),
+      refl,
+      start .pre .rows .eight,
+      sym (set-getD (start .args .counts .now) 0 0),
+      rowMarks-start _ _ _ _ _ _ _ _ _ _ (omega (arith, lower .ensures, start .pre .inside)) (c .before .before .blank-row .ensures) (omega (arith, lower .ensures)),
     )
+
+add-r : tie.Need-add-r Inv-loop μ-loop
+add-r c =
+    let start = c .before .before .before .before .before .before .before .before .before .before .before .before .before .before .before in
+    omega (arith, start .pre .each (c .before .loop .x) (c .loop-test .taken) .fits)
+
+cast-counts : tie.Need-cast-counts Inv-loop μ-loop
+cast-counts c =
+    let start = c .before .before .before .before .before .before .before .before .before .before .before .before .before .before .before in
+    omega (arith, start .pre .short)
+
+slice-write-counts : tie.Need-slice-write-counts Inv-loop μ-loop
+slice-write-counts c = omega arith
+
+mark-requires : tie.Need-mark-requires Inv-loop μ-loop
+mark-requires c κs =
+    let start = c .before .before .before .before .before .before .before .before .before .before .before .before .before .before .before .before .before in
+    let loop = c .before .before .before .loop in (
+      rw (loop .inv .2 ∙ c .before .before .before .before .before .before .blank-row .kept .0, set-first (loop .counts) (start .args .counts .now) (loop .x) (loop .inv .4)) (start .pre .each (loop .x) (c .before .before .loop-test .taken)),
+      c .before .before .before .before .before .before .before .before .before .others-of .ensures .1,
+    )
+
+slice-write-marks : tie.Need-slice-write-marks Inv-loop μ-loop
+slice-write-marks c =
+    let start = c .before .before .before .before .before .before .before .before .before .before .before .before .before .before .before .before .before .before in
+    let loop = c .before .before .before .before .loop in
+    omega (arith, loop .inv .2 ∙ c .before .before .before .before .before .before .before .blank-row .kept .0, start .pre .each (loop .x) (c .before .before .before .loop-test .taken) .fits)
+
+add-x : tie.Need-add-x Inv-loop μ-loop
+add-x c = search needs
+
+loop-less : tie.Need-loop-less Inv-loop μ-loop
+loop-less c = search needs
+
+loop-again : tie.Need-loop-again Inv-loop μ-loop
+loop-again c =
+    let start = c .before .before .before .before .before .before .before .before .before .before .before .before .before .before .before .before .before .before in
+    let lower = c .before .before .before .before .before .before .before .before .before .lower in
+    let loop = c .before .before .before .before .loop in
+    let kept = c .before .before .before .before .before .before .before .blank-row .kept .0 in
+    let ready = start .pre .each (loop .x) (c .before .before .before .loop-test .taken) in
+    let same = set-first (loop .counts) (start .args .counts .now) (loop .x) (loop .inv .4) in
+    let new = getD-set-same (loop .counts) 0 (loop .x) 0 (omega arith) in (
+      omega arith,
+      omega arith,
+      simp length-set (loop .inv .2),
+      simp length-set (loop .inv .3),
+      rw new same,
+      rw (c .mark .ensures, same) (rowMarks-more _ _ _ _ _ _ _ _ _ _ (loop .inv .5) (omega (arith, lower .ensures)) (rw kept (ready .fits)) (ready .back)),
+    )
+
+same-length : tie.Need-same-length Inv-loop μ-loop
+same-length c = c .before .loop .inv .2 ∙ c .before .before .before .before .blank-row .kept .0
+
+same-length-2 : tie.Need-same-length-2 Inv-loop μ-loop
+same-length-2 c =
+    let start = c .before .before .before .before .before .before .before .before .before .before .before .before .before .before .before in
+    omega (arith, start .pre .rows .eight)
+
+returns : tie.Need-returns Inv-loop μ-loop
+returns c =
+    let start = c .before .before .before .before .before .before .before .before .before .before .before .before .before .before .before in
+    let others-of = c .before .before .before .before .before .before .before .others-of in
+    let lower = c .before .before .before .before .before .before .lower in
+    let loop = c .before .loop in
+    (rw (others-of .ensures .0) at (rowMarks-end _ _ _ _ _ _ _ (start .args .marks .now) _ (lower .result) (omega (arith, lower .ensures, start .pre .inside)) (c .before .before .before .before .blank-row .ensures) _ _ (omega (arith, lower .ensures)) (rw (le-antisymm (loop .inv .1) (c .loop-test .left)) at (loop .inv .5))), loop .inv .4)
 
 pub fill-row-spec : {M : Type 1} → statement M
 fill-row-spec =
     tie.close
     (tie.spec
-    cast-n
-    others-met-requires
-    slice-read-wide
-    wide-requires
-    add-blank-row
+    Inv-loop
+    μ-loop
+    others-of-requires
+    lower-requires
     blank-row-requires
+    loop-holds
+    add-r
+    cast-counts
+    slice-write-counts
+    mark-requires
+    slice-write-marks
+    add-x
+    loop-less
+    loop-again
     same-length
     same-length-2
-    returns
-    shared-slice-read-t24
-    others-need-requires
-    others-add-requires
-    mark-row-requires
-    same-length-3
-    same-length-4
-    returns-2)
+    returns)

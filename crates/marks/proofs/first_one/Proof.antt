@@ -1,35 +1,32 @@
--- No rank passed is marked 1; the first that is is the answer, and beyond the marks there is none.
+-- No rank passed is marked 1; the first that is is the answer.
 use mathlib.Core.Path.{_≡_, sym}
 use mathlib.Core.Bool.{false}
-use Prim.Native.Nat.{ℕ, _-_, _≤_, _<_, min}
+use Prim.Native.Nat.{ℕ, _-_, _≤_, _<_}
+use native.Mathlib.Nat.{le-antisymm}
 use native.Mathlib.Omega.{arith}
 use lib.Dec.{eqb}
-use lib.ListN.{length}
 use borrow.Author.Count.{below-none, below-more}
 use borrow.Author.Tests.{eq-eqb, ne-eqb}
 use Rattle.cuts.specs.Cut.{at}
-use Rattle.marks.proofs.SearchLaws.{first-found, first-none, end-reached, one-none}
+use Rattle.marks.proofs.SearchLaws.{first-found, first-none}
 use borrow.Author.Needs.{needs}
 use Rattle.marks.proofs.first_one.Statement.{statement}
 use Rattle.marks.proofs.first_one.Tie as tie
 
 abbrev Inv-loop : tie.InvT-loop
-Inv-loop marks size end r₀ r = (r ≤ end) × (end ≡ min (length marks) size) × ((q : ℕ) → q < r → eqb (at marks q) 1 ≡ false)
+Inv-loop marks size r₀ r = (r ≤ size) × ((q : ℕ) → q < r → eqb (at marks q) 1 ≡ false)
 
 abbrev μ-loop : tie.MeasureT-loop
-μ-loop marks size end r₀ r = end - r
-
-lower-requires : tie.Need-lower-requires Inv-loop μ-loop
-lower-requires c κs = search needs
+μ-loop marks size r₀ r = size - r
 
 loop-holds : tie.Need-loop-holds Inv-loop μ-loop
-loop-holds c = (omega arith, c .lower .ensures, below-none _)
+loop-holds c = (omega arith, below-none _)
 
 shared-slice-read-if1 : tie.Need-shared-slice-read-if1 Inv-loop μ-loop
 shared-slice-read-if1 c = search needs
 
 returns : tie.Need-returns Inv-loop μ-loop
-returns c = sym (first-found _ _ _ (omega arith) (c .before .before .before .loop .inv .2) (eq-eqb _ _ (c .if1 .taken)))
+returns c = sym (first-found _ _ _ (omega arith) (c .before .before .before .loop .inv .1) (eq-eqb _ _ (c .if1 .taken)))
 
 add-r : tie.Need-add-r Inv-loop μ-loop
 add-r c = search needs
@@ -40,12 +37,13 @@ loop-less c = search needs
 loop-again : tie.Need-loop-again Inv-loop μ-loop
 loop-again c =
     let loop = c .before .before .before .loop in
-    (omega arith, loop .inv .1, below-more _ _ (loop .inv .2) (ne-eqb _ _ (c .if1 .left)))
+    (omega arith, below-more _ _ (loop .inv .1) (ne-eqb _ _ (c .if1 .left)))
 
 returns-2 : tie.Need-returns-2 Inv-loop μ-loop
 returns-2 c =
-    let start = c .before .before .before .before in
-    sym (first-none _ _ (one-none (start .args .marks .now) _ _ (end-reached _ _ _ (omega arith)) (c .before .loop .inv .2)))
+    let loop = c .before .loop in
+    let e : loop .r ≡ c .before .before .args .size = le-antisymm (loop .inv .0) (c .loop-test .left) in
+    sym (first-none _ _ (rw e at (loop .inv .1)))
 
 pub first-one-spec : {M : Type 1} → statement M
 first-one-spec =
@@ -53,7 +51,6 @@ first-one-spec =
     (tie.spec
     Inv-loop
     μ-loop
-    lower-requires
     loop-holds
     shared-slice-read-if1
     returns

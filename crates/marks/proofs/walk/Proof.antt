@@ -1,101 +1,153 @@
--- The size is the box of a full cut within its limit, so the full cut has rank size - 1; each test refuses one part of what makes a way walkable.
-use mathlib.Core.Path.{sym, _∙_}
+-- The full cut has the last rank. Where it is marked 3 each turn takes one step of the way from its end: the place that the search finds, and the rank and
+-- counts one step back.
+use mathlib.Core.Path.{_≡_, sym, ap, _∙_}
+use Prim.Native.Nat.{_+_, _-_}
 use native.Mathlib.Omega.{arith}
+use lib.ListN.{length, take}
 use Rattle.cut.specs.Value.{countsOf}
-use Rattle.cuts.specs.Rank.{rank}
-use Rattle.cuts.specs.Cut.{at}
-use Rattle.cuts.proofs.RankLaws.{box-pos}
-use Rattle.cut.proofs.ValueRight.{boxOf-full}
-use Rattle.marks.proofs.FlatLaws.{sized, box-size, marked-within, walked-none, walked-some}
-use Rattle.marks.proofs.BackLaws.{rank-full}
+use Rattle.cuts.proofs.RankLaws.{box-pos, rank-lt}
+use Rattle.cut.proofs.ValueLaws.{eight-counts}
+use Rattle.marks.proofs.BackLaws.{Walked, walked-start, walked-steps, walked-found, walked-more, walked-done, length-stridesOf}
+use Rattle.marks.proofs.FlatLaws.{rank-last, walked-none, walked-some}
 use borrow.Author.Needs.{needs}
 use Rattle.marks.proofs.walk.Statement.{statement}
 use Rattle.marks.proofs.walk.Tie as tie
 
-box-of-requires : tie.Need-box-of-requires
-box-of-requires c κs = search needs
+abbrev Inv-loop : tie.InvT-loop
+Inv-loop marks path₀ size r₀ n strides counts₀ k₀ path r counts k = Walked (take n counts₀) marks path₀ k₀ n path counts r k
 
-returns : tie.Need-returns
+abbrev μ-loop : tie.MeasureT-loop
+μ-loop marks path₀ size r₀ n strides counts₀ k₀ path r counts k = k
+
+sub-r : tie.Need-sub-r Inv-loop μ-loop
+sub-r c =
+    let start = c .before .before in
+    omega (arith, start .pre .2, box-pos (countsOf (start .args .full)))
+
+shared-slice-read-if1 : tie.Need-shared-slice-read-if1 Inv-loop μ-loop
+shared-slice-read-if1 c =
+    let start = c .before .before .before in
+    omega (arith, start .pre .2, start .pre .3, box-pos (countsOf (start .args .full)))
+
+returns : tie.Need-returns Inv-loop μ-loop
 returns c =
     let start = c .before .before .before .before in
-    walked-none _ _ _ (λ w. omega (arith, boxOf-full (start .args .full) (w .full), box-pos (countsOf (start .args .full))))
+    walked-none _ _ _ _ (rank-last (start .args .full) (start .args .size) (start .pre .2)) (c .if1 .taken)
 
-returns-2 : tie.Need-returns-2
-returns-2 c =
+cast-n : tie.Need-cast-n Inv-loop μ-loop
+cast-n c = search needs
+
+strides-of-requires : tie.Need-strides-of-requires Inv-loop μ-loop
+strides-of-requires c κs =
     let start = c .before .before .before .before .before in
-    walked-none _ _ _ (λ w. omega (arith, boxOf-full (start .args .full) (w .full), w .limit))
+    (start .pre .0, start .pre .1)
 
-returns-3 : tie.Need-returns-3
-returns-3 c =
-    let start = c .before .before .before .before .before .before in
-    let box-of = c .before .before .before .box-of in
-    walked-none _ _ _
-    (λ w.
-    omega (
-      arith,
-      box-size (start .args .full) (box-of .result) (box-of .ensures) (w .full) (w .limit),
-      rank-full (countsOf (start .args .full)),
-      marked-within (start .args .marks .now) (rank (countsOf (start .args .full)) (countsOf (start .args .full))) (w .marked),
-    ))
+total-of-requires : tie.Need-total-of-requires Inv-loop μ-loop
+total-of-requires c κs = c .before .before .before .before .before .before .before .pre .0 .most-eight
 
-shared-slice-read-if4 : tie.Need-shared-slice-read-if4
-shared-slice-read-if4 c = omega arith
-
-returns-4 : tie.Need-returns-4
-returns-4 c =
+loop-holds : tie.Need-loop-holds Inv-loop μ-loop
+loop-holds c =
     let start = c .before .before .before .before .before .before .before .before in
-    let box-of = c .before .before .before .before .before .box-of in
-    let if1 = c .before .before .before .before .if1 in
-    let s = sized (start .args .full) (box-of .result) (box-of .ensures) (if1 .left) (c .before .before .before .if2 .left) in
-    walked-none _ _ _ (λ w. c .if4 .taken (rw (s .last) at (w .marked)))
+    rw (sym (rank-last (start .args .full) (start .args .size) (start .pre .2))) (walked-start _ (start .pre .0) (eight-counts (start .args .full) _ (start .good .0)) _ _ _)
 
-total-of-requires : tie.Need-total-of-requires
-total-of-requires c κs =
-    let start = c .before .before .before .before .before .before .before .before in
-    let box-of = c .before .before .before .before .before .box-of in
-    let if1 = c .before .before .before .before .if1 in
-    sized (start .args .full) (box-of .result) (box-of .ensures) (if1 .left) (c .before .before .before .if2 .left) .full .most-eight
+slice-aggregate-first-back : tie.Need-slice-aggregate-first-back Inv-loop μ-loop
+slice-aggregate-first-back c = sym (c .before .before .loop .inv .eight)
 
-returns-5 : tie.Need-returns-5
-returns-5 c = walked-none _ _ _ (λ w. omega (arith, c .before .total-of .ensures, w .fits))
+slice-aggregate-first-back-2 : tie.Need-slice-aggregate-first-back-2 Inv-loop μ-loop
+slice-aggregate-first-back-2 c = sym (ap length (c .before .before .before .before .before .before .strides-of .ensures) ∙ length-stridesOf _ (c .before .before .before .before .before .before .before .before .before .before .before .before .pre .0))
 
-walk-back-requires : tie.Need-walk-back-requires
-walk-back-requires c κs =
-    let start = c .before .before .before .before .before .before .before .before .before .before .before in
-    let box-of = c .before .before .before .before .before .before .before .before .box-of in
-    let if1 = c .before .before .before .before .before .before .before .if1 in
-    let if2 = c .before .before .before .before .before .before .if2 in
-    let s = sized (start .args .full) (box-of .result) (box-of .ensures) (if1 .left) (if2 .left) in
-    (s .full, omega (arith, s .is-box), omega (arith, s .is-box), sym (s .last), omega arith)
+first-back-requires : tie.Need-first-back-requires Inv-loop μ-loop
+first-back-requires c κs =
+    let start = c .before .before .before .before .before .before .before .before .before .before .before .before in
+    let strides-of = c .before .before .before .before .before .before .strides-of in
+    let loop = c .before .before .before .loop in
+    let l = eight-counts (start .args .full) _ (start .good .0) in (
+      walked-steps _ (start .pre .0) l _ _ _ _ _ _ _ (loop .inv) _ (strides-of .ensures),
+      start .pre .0 .most-eight,
+      omega (arith, loop .inv .eight, start .pre .0 .most-eight),
+      omega (arith, ap length (strides-of .ensures), length-stridesOf (start .args .full) (start .pre .0), start .pre .0 .most-eight),
+      omega (arith, loop .inv .ranked, rank-lt (countsOf (start .args .full)) (take (start .args .full .n) (loop .counts)) (loop .inv .cut), start .pre .2, start .pre .3),
+    )
 
-same-length : tie.Need-same-length
-same-length c = c .before .before .walk-back .kept .1 .1 .0
+sub-k : tie.Need-sub-k Inv-loop μ-loop
+sub-k c = search needs
 
-returns-6 : tie.Need-returns-6
-returns-6 c =
+add-path : tie.Need-add-path Inv-loop μ-loop
+add-path c = search needs
+
+cast-path : tie.Need-cast-path Inv-loop μ-loop
+cast-path c =
+    let start = c .before .before .before .before .before .before .before .before .before .before .before .before .before in
+    omega (arith, c .first-back .ensures .1, start .pre .0 .most-eight)
+
+slice-write-path : tie.Need-slice-write-path Inv-loop μ-loop
+slice-write-path c =
+    let start = c .before .before .before .before .before .before .before .before .before .before .before .before .before in
+    let loop = c .before .before .before .before .loop in
+    omega (arith, loop .inv .place, loop .inv .length, c .before .before .before .before .before .total-of .ensures, start .pre .4)
+
+slice-aggregate-rank-back : tie.Need-slice-aggregate-rank-back Inv-loop μ-loop
+slice-aggregate-rank-back c = sym (ap length (c .before .before .before .before .before .before .before .before .strides-of .ensures) ∙ length-stridesOf _ (c .before .before .before .before .before .before .before .before .before .before .before .before .before .before .pre .0))
+
+rank-back-requires : tie.Need-rank-back-requires Inv-loop μ-loop
+rank-back-requires c κs =
     let start = c .before .before .before .before .before .before .before .before .before .before .before .before .before .before in
-    let box-of = c .before .before .before .before .before .before .before .before .before .before .before .box-of in
-    let if1 = c .before .before .before .before .before .before .before .before .before .before .if1 in
-    let if2 = c .before .before .before .before .before .before .before .before .before .if2 in
-    let if4 = c .before .before .before .before .before .before .if4 in
-    let total-of = c .before .before .before .before .before .total-of in
-    let s = sized (start .args .full) (box-of .result) (box-of .ensures) (if1 .left) (if2 .left) in
-    let w = walked-some (start .args .full) (start .args .marks .now) (start .args .path .now)
-    (record { full = s .full; limit = omega (arith, s .is-box); marked = rw (s .last) (if4 .left); fits = omega (arith, total-of .ensures) }) in
-    (w .0, rw (total-of .ensures) at (c .before .before .walk-back .ensures) ∙ w .1)
+    let strides-of = c .before .before .before .before .before .before .before .before .strides-of in
+    let loop = c .before .before .before .before .before .loop in
+    let l = eight-counts (start .args .full) _ (start .good .0) in (
+      omega (arith, ap length (strides-of .ensures), length-stridesOf (start .args .full) (start .pre .0), start .pre .0 .most-eight),
+      walked-found _ (start .pre .0) l _ _ _ _ _ _ _ (loop .inv) _ (strides-of .ensures) _ (c .before .first-back .ensures .0),
+    )
+
+count-back-requires : tie.Need-count-back-requires Inv-loop μ-loop
+count-back-requires c κs = search needs
+
+loop-less : tie.Need-loop-less Inv-loop μ-loop
+loop-less c = search needs
+
+loop-again : tie.Need-loop-again Inv-loop μ-loop
+loop-again c =
+    let start = c .before .before .before .before .before .before .before .before .before .before .before .before .before .before .before .before in
+    let strides-of = c .before .before .before .before .before .before .before .before .before .before .strides-of in
+    let loop = c .before .before .before .before .before .before .before .loop in
+    let l = eight-counts (start .args .full) _ (start .good .0) in
+    let e : loop .k ≡ loop .k - 1 + 1 = omega arith in
+    rw (c .count-back .ensures, c .before .rank-back .ensures, strides-of .ensures)
+    (walked-more _ (start .pre .0) l _ _ _ _ _ _ _ _ (rw e at (loop .inv)) (rw (c .before .before .before .before .before .before .before .before .total-of .ensures) (start .pre .4)) (rw (strides-of .ensures) at (c .before .before .before .first-back .ensures .0)))
+
+same-length : tie.Need-same-length Inv-loop μ-loop
+same-length c = c .before .loop .inv .length
+
+returns-2 : tie.Need-returns-2 Inv-loop μ-loop
+returns-2 c =
+    let start = c .before .before .before .before .before .before .before .before .before .before in
+    walked-some _ _ _ _ _ (rank-last (start .args .full) (start .args .size) (start .pre .2)) (c .before .before .before .before .before .before .if1 .left)
+    (rw (c .before .before .total-of .ensures) at (walked-done _ (start .pre .0) (eight-counts (start .args .full) _ (start .good .0)) _ _ _ _ _ _ _ (c .before .loop .inv) (c .loop-test .left)))
 
 pub walk-spec : {M : Type 1} → statement M
 walk-spec =
     tie.close
     (tie.spec
-    box-of-requires
+    Inv-loop
+    μ-loop
+    sub-r
+    shared-slice-read-if1
     returns
-    returns-2
-    returns-3
-    shared-slice-read-if4
-    returns-4
+    cast-n
+    strides-of-requires
     total-of-requires
-    returns-5
-    walk-back-requires
+    loop-holds
+    slice-aggregate-first-back
+    slice-aggregate-first-back-2
+    first-back-requires
+    sub-k
+    add-path
+    cast-path
+    slice-write-path
+    slice-aggregate-rank-back
+    rank-back-requires
+    count-back-requires
+    loop-less
+    loop-again
     same-length
-    returns-6)
+    returns-2)

@@ -1,5 +1,4 @@
--- The tables are laid of the recording and the condition, the box is filled from them, and witness and path are read off the marks: `computed` says that
--- these are the recording's.
+-- The tables are laid of the recording and the condition, and the box is settled from them: `computed` says that what is settled is the recording's.
 use mathlib.Core.Path.{refl}
 use borrow.Author.Needs.{needs}
 use Rattle.engine.proofs.FullLaws.{short-full}
@@ -37,20 +36,14 @@ bases-requires c κs =
     let z = c .before .before .before .before .before .before .before .before .before .before .before .before .before .before .pre in
     short-full _ _ (z .accepts) (z .full-is)
 
-slice-aggregate-fill : tie.Need-slice-aggregate-fill
-slice-aggregate-fill c = search needs
+slice-aggregate-settle : tie.Need-slice-aggregate-settle
+slice-aggregate-settle c = search needs
 
-slice-aggregate-fill-2 : tie.Need-slice-aggregate-fill-2
-slice-aggregate-fill-2 c = search needs
+slice-aggregate-settle-2 : tie.Need-slice-aggregate-settle-2
+slice-aggregate-settle-2 c = search needs
 
-fill-requires : tie.Need-fill-requires
-fill-requires c κs = search needs
-
-witness-requires : tie.Need-witness-requires
-witness-requires c κs = search needs
-
-walk-requires : tie.Need-walk-requires
-walk-requires c κs = search needs
+settle-requires : tie.Need-settle-requires
+settle-requires c κs = search needs
 
 same-length : tie.Need-same-length
 same-length c = search needs
@@ -60,17 +53,15 @@ same-length-2 c = search needs
 
 returns : tie.Need-returns
 returns c =
-    let W = c .before .before in
-    let I = W .before .before .before .before in
-    let F = I .before .before .before .before in
-    let B = F .before .before .before .before in
+    let E = c .before .before .before .before .before in
+    let B = E .before .before .before .before .before in
     let H = B .before in
     let O = H .before in
     let G = O .before .before in
     let S = G .before .before in
     let N = S .before .before in
     let z = N .before .before .before .before .before .before .before .pre in
-    computed _ _ _ _ _ _ _ z _ _ _ _ _ _ _ refl refl (S .starts .ensures) (B .bases .ensures) (N .lay-needs .ensures) (G .lay-weights .ensures) (rw (O .limits-of .ensures) at (H .shifted .ensures)) _ _ _ _ (F .fill .ensures .1) (I .witness .ensures) (W .walk .ensures)
+    computed _ _ _ _ _ _ _ z _ _ _ _ _ _ _ refl refl (S .starts .ensures) (B .bases .ensures) (N .lay-needs .ensures) (G .lay-weights .ensures) (rw (O .limits-of .ensures) at (H .shifted .ensures)) _ _ _ (E .settle .ensures)
 
 pub verdicts-spec : {M : Type 1} → statement M
 verdicts-spec =
@@ -84,11 +75,9 @@ verdicts-spec =
     limits-of-requires
     shifted-requires
     bases-requires
-    slice-aggregate-fill
-    slice-aggregate-fill-2
-    fill-requires
-    witness-requires
-    walk-requires
+    slice-aggregate-settle
+    slice-aggregate-settle-2
+    settle-requires
     same-length
     same-length-2
     returns)
