@@ -2,14 +2,17 @@
 -- Assumes nothing.
 use mathlib.Core.Path.{_≡_, refl, sym, ap, _∙_}
 use mathlib.Core.Bool.{true, false, _&&_, cond}
-use mathlib.Core.List.{List}
+use mathlib.Core.Logic.{inl, inr}
+use mathlib.Core.List.{List, [], _∷_}
 use Prim.Native.Nat.{ℕ, _+_, _≤_}
 use native.Mathlib.Omega.{arith}
 use lib.Dec.{leb}
 use lib.ListN.{length, length-map, List·getD-eq-default}
 use mir.Val.{Val}
 use denote.Laws.{Is}
+use types.Run.{OneOf}
 use denote.Struct.Declared.{row}
+use denote.Enum.Declared.{tagOf}
 use Rattle.levels.specs.Level.{levelOf}
 use Rattle.levels.proofs.LevelLaws.{sub-le}
 use Rattle.condition.specs.Condition.{boundOf, between, lies, windowAt, noWindow}
@@ -18,6 +21,7 @@ use Rattle.condition.specs.declared.Window.{Window}
 use Rattle.condition.specs.declared.Kind.{Kind}
 use Rattle.condition.specs.declared.Condition.{Condition}
 use Rattle.condition.proofs.Condition.{the-type}
+use Rattle.condition.proofs.Kind.{the-type as kind-type}
 use Rattle.condition.proofs.FieldLaws.{leb-add}
 
 -- a condition that is passed by value has eight windows
@@ -48,14 +52,17 @@ module _ (c : Condition) (p x : ℕ) where
   unfolding weighOf
   weigh-unasked e = unaskedBy (c .kind) e
 
-  -- an asked one adds 1 where its level lies in its window
-  pub weigh-together : c .kind ≡ Kind.Together → windowAt c p .asked ≡ true → weighOf c p x ≡ cond (lies (windowAt c p) (levelOf x)) 1 0
-  unfolding weighOf weighBy
-  weigh-together k e = rw (k, e) refl
+  insideBy : (k : Kind) → OneOf (0 ∷ 1 ∷ []) (tagOf kind-type k) → windowAt c p .asked ≡ true → weighBy k c p x ≡ cond (lies (windowAt c p) (levelOf x)) 1 0
+  unfolding weighBy
+  insideBy Kind.Together o e = rw e refl
+  insideBy (Kind.AtLeast k) o e = rw e refl
+  insideBy (Kind.Sum low high) (inl o) e = let z : _≡_ {A = ℕ} 2 0 = o in absurd (omega arith)
+  insideBy (Kind.Sum low high) (inr o) e = let z : _≡_ {A = ℕ} 2 1 = o in absurd (omega arith)
 
-  pub weigh-atLeast : {n : ℕ} → c .kind ≡ Kind.AtLeast n → windowAt c p .asked ≡ true → weighOf c p x ≡ cond (lies (windowAt c p) (levelOf x)) 1 0
-  unfolding weighOf weighBy
-  weigh-atLeast k e = rw (k, e) refl
+  -- an asked one adds 1 where its level lies in its window, for Together and At least
+  pub weigh-inside : OneOf (0 ∷ 1 ∷ []) (tagOf kind-type (c .kind)) → windowAt c p .asked ≡ true → weighOf c p x ≡ cond (lies (windowAt c p) (levelOf x)) 1 0
+  unfolding weighOf
+  weigh-inside o e = insideBy (c .kind) o e
 
   -- and its level for Sum
   pub weigh-sum : {low high : ℕ} → c .kind ≡ Kind.Sum low high → windowAt c p .asked ≡ true → weighOf c p x ≡ x

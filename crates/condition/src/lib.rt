@@ -72,9 +72,8 @@ pub fn weigh(c: Condition, p: usize, level: u16) -> u16
     }
     let kind = c.kind;
     match kind {
-        Kind::Together => one_if(is_inside(window, level)),
-        Kind::AtLeast(_) => one_if(is_inside(window, level)),
         Kind::Sum(_, _) => level,
+        _ => one_if(is_inside(window, level)),
     }
 }
 

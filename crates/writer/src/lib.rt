@@ -366,18 +366,18 @@ fn put_stations(room: &mut [u8], lead: usize, w: usize, n: usize, counts: &[u8],
         let i = station_bit(lead, w, p);
         let m = count_at(counts, p);
         let start = level_at(starts, p);
-        put_station(room, w, i, m, start);
+        put_pair(room, w, i, m, start);
         p += 1;
     }
 }
 
-// A station's count and start level, from the bit i on.
-fn put_station(room: &mut [u8], w: usize, i: usize, m: u16, start: i16)
-    requires { ⌜ (w ≤ 9) × (i ≤ 400000) ⌝ }
-    ensures { λ _. ⌜ now (room .exit) ≡ putStation w i m start (now (room .entry)) ⌝ }
+// A count and a level, from the bit i on: all of a station's part, the middle of a record.
+fn put_pair(room: &mut [u8], w: usize, i: usize, m: u16, level: i16)
+    requires { ⌜ (w ≤ 9) × (i ≤ 400004) ⌝ }
+    ensures { λ _. ⌜ now (room .exit) ≡ putStation w i m level (now (room .entry)) ⌝ }
 {
     put::put(room, i, w, m);
-    put::put(room, i + w, 12, level_bits(start));
+    put::put(room, i + w, 12, level_bits(level));
 }
 
 // The records, in file order.
@@ -422,8 +422,7 @@ fn put_record(
     ensures { λ _. ⌜ now (room .exit) ≡ putRecord w i o k level (λ q. at (now (stamps .entry)) (r * n + q)) n (now (room .entry)) ⌝ }
 {
     put::put(room, i, 4, o as u16);
-    put::put(room, i + 4, w, k);
-    put::put(room, i + 4 + w, 12, level_bits(level));
+    put_pair(room, w, i + 4, k, level);
     put_counts(room, w, i + 16 + w, n, stamps, r);
 }
 

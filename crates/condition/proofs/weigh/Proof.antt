@@ -1,7 +1,7 @@
 -- A station that is not there or not asked adds nothing; what an asked one adds goes by the kind.
 use mathlib.Core.Path.{sym}
 use borrow.Author.Tests.{not-true, not-false}
-use Rattle.condition.proofs.WeighLaws.{eight-windows, unasked-beyond, weigh-unasked, weigh-together, weigh-atLeast, weigh-sum}
+use Rattle.condition.proofs.WeighLaws.{eight-windows, unasked-beyond, weigh-unasked, weigh-inside, weigh-sum}
 use borrow.Author.Needs.{needs}
 use Rattle.condition.proofs.weigh.Statement.{statement}
 use Rattle.condition.proofs.weigh.Tie as tie
@@ -27,30 +27,13 @@ is-inside-requires c κs = search needs
 one-if-requires : tie.Need-one-if-requires
 one-if-requires c κs = search needs
 
-enum-told-2 : tie.Need-enum-told-2
-enum-told-2 c = search needs
-
-is-inside-requires-2 : tie.Need-is-inside-requires-2
-is-inside-requires-2 c κs = search needs
-
-one-if-requires-2 : tie.Need-one-if-requires-2
-one-if-requires-2 c κs = search needs
-
-enum-told-3 : tie.Need-enum-told-3
-enum-told-3 c = search needs
-
 returns-3 : tie.Need-returns-3
-returns-3 c =
-    let a = c .before .before in
-    rw (c .one-if .ensures .0, c .before .is-inside .ensures) (sym (weigh-together _ _ _ (a .enum-told .given .1) (not-false _ (a .before .before .if2 .left))))
+returns-3 c = sym (weigh-sum _ _ _ (c .enum-told .given .1) (not-false _ (c .before .before .if2 .left)))
 
 returns-4 : tie.Need-returns-4
 returns-4 c =
-    let a = c .before .before in
-    rw (c .one-if2 .ensures .0, c .before .is-inside2 .ensures) (sym (weigh-atLeast _ _ _ (a .enum-told2 .given .1) (not-false _ (a .before .before .if2 .left))))
-
-returns-5 : tie.Need-returns-5
-returns-5 c = sym (weigh-sum _ _ _ (c .enum-told3 .given .1) (not-false _ (c .before .before .if2 .left)))
+    let m = c .before .before in
+    rw (c .one-if .ensures .0, c .before .is-inside .ensures) (sym (weigh-inside _ _ _ (m .match .keys2) (not-false _ (m .before .if2 .left))))
 
 pub weigh-spec : {M : Type 1} → statement M
 weigh-spec =
@@ -63,10 +46,5 @@ weigh-spec =
     enum-told
     is-inside-requires
     one-if-requires
-    enum-told-2
-    is-inside-requires-2
-    one-if-requires-2
-    enum-told-3
     returns-3
-    returns-4
-    returns-5)
+    returns-4)

@@ -29,8 +29,8 @@ count-at-requires c κs = search needs
 level-at-requires : tie.Need-level-at-requires Inv-loop μ-loop
 level-at-requires c κs = search needs
 
-put-station-requires : tie.Need-put-station-requires Inv-loop μ-loop
-put-station-requires c κs = search needs
+put-pair-requires : tie.Need-put-pair-requires Inv-loop μ-loop
+put-pair-requires c κs = search needs
 
 add-p : tie.Need-add-p Inv-loop μ-loop
 add-p c = search needs
@@ -45,8 +45,8 @@ loop-again c =
     let B = v .before .before in
     let L = B .before .before .loop in (
       omega arith,
-      P .put-station .kept .0 ∙ L .inv .1,
-      P .put-station .ensures ∙ station-more _ _ _ _ _ _ _ _ _ _ (B .station-bit .ensures .0) (v .before .count-at .ensures .0) (held-signed _ (v .level-at .ok) ∙ v .level-at .ensures) (L .inv .2),
+      P .put-pair .kept .0 ∙ L .inv .1,
+      P .put-pair .ensures ∙ station-more _ _ _ _ _ _ _ _ _ _ (B .station-bit .ensures .0) (v .before .count-at .ensures .0) (held-signed _ (v .level-at .ok) ∙ v .level-at .ensures) (L .inv .2),
     )
 
 same-length : tie.Need-same-length Inv-loop μ-loop
@@ -65,7 +65,7 @@ put-stations-spec =
     station-bit-requires
     count-at-requires
     level-at-requires
-    put-station-requires
+    put-pair-requires
     add-p
     loop-less
     loop-again

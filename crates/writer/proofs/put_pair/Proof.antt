@@ -3,8 +3,8 @@ use mathlib.Core.Path.{refl, _∙_}
 use mir.Facts.{toZ-ofZ}
 use borrow.Author.Needs.{needs}
 use Rattle.writer.specs.Pack.{putStation}
-use Rattle.writer.proofs.put_station.Statement.{statement}
-use Rattle.writer.proofs.put_station.Tie as tie
+use Rattle.writer.proofs.put_pair.Statement.{statement}
+use Rattle.writer.proofs.put_pair.Tie as tie
 
 put-requires : tie.Need-put-requires
 put-requires c κs = search needs
@@ -26,9 +26,9 @@ unfolding putStation
 returns c =
     let b = c .before .before .before in
     let a = b .before .before .before .before in
-    c .before .before .put2 .ensures .bytes ∙ rw (b .level-bits .ensures, toZ-ofZ (a .before .before .before .fits .start), a .put .ensures .bytes) refl
+    c .before .before .put2 .ensures .bytes ∙ rw (b .level-bits .ensures, toZ-ofZ (a .before .before .before .fits .level), a .put .ensures .bytes) refl
 
-pub put-station-spec : {M : Type 1} → statement M
-put-station-spec =
+pub put-pair-spec : {M : Type 1} → statement M
+put-pair-spec =
     tie.close
     (tie.spec put-requires add-put level-bits-requires put-requires-2 same-length returns)
