@@ -1,9 +1,9 @@
 // Fields of 1 to 16 bits in a slice of bytes, most significant bit first: a reader looks at them and takes them.
 // A place is a bit's number in the slice, from 0; a slice may have more bits than a usize can count.
 ghost use mathlib.Core.Path.{_≡_};
-ghost use Prim.Native.Nat.{_*_, _≤_, _<_, min};
+ghost use Prim.Native.Nat.{_<_};
 ghost use lib.ListN.{getD};
-ghost use Rattle.bits.specs.Bits.{field, peeked, takenOf, placeAfter, Takes, leftOf};
+ghost use Rattle.bits.specs.Bits.{peeked, takenOf, placeAfter, Takes, leftOf};
 
 // What a read finds: the field's value and the next place, or nothing.
 pub enum Taken {
@@ -64,7 +64,11 @@ fn peek_at(s: &[u8], at: usize, k: usize) -> u16
     if 16 < k {
         return 0;
     }
-    let w = three_bytes(s, at / 8);
+    let q = at / 8;
+    let a = byte(s, q);
+    let b = byte(s, q + 1);
+    let c = byte(s, q + 2);
+    let w = a * 65536 + b * 256 + c;
     let v = (w >> (24 - at % 8 - k)) % (1 << k);
     v as u16
 }
@@ -99,32 +103,14 @@ fn next_place(at: usize, t: Taken) -> usize
 fn left_at(s: &[u8], at: usize) -> usize
     ensures { λ r. ⌜ r ≡ leftOf (now (s .entry)) at ⌝ }
 {
-    let n = bits_of(s.len());
-    if n < at {
+    let n = s.len();
+    if usize::MAX / 8 < n {
+        return usize::MAX - at;
+    }
+    if 8 * n < at {
         return 0;
     }
-    n - at
-}
-
-// The bits of n bytes that a usize can count.
-fn bits_of(n: usize) -> usize
-    ensures { λ r. ⌜ r ≡ min (8 * n) 0xffff_ffff_ffff_ffff ⌝ }
-{
-    if usize::MAX / 8 < n {
-        return usize::MAX;
-    }
-    8 * n
-}
-
-// The bits of three bytes from the byte at q on, as a number; bytes past the end are 0.
-fn three_bytes(s: &[u8], q: usize) -> usize
-    requires { ⌜ q ≤ 0x1fff_ffff_ffff_ffff ⌝ }
-    ensures { λ r. ⌜ r ≡ field (now (s .entry)) (q * 8) 24 ⌝ }
-{
-    let a = byte(s, q);
-    let b = byte(s, q + 1);
-    let c = byte(s, q + 2);
-    a * 65536 + b * 256 + c
+    8 * n - at
 }
 
 // The byte at i, or 0 past the end.

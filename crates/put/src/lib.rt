@@ -1,9 +1,9 @@
 // Fields of 1 to 16 bits are put into a slice of bytes, most significant bit first.
 // A place is a bit's number in the slice, from 0; a slice may have more bits than a usize can count.
 ghost use mathlib.Core.Path.{_≡_};
-ghost use Prim.Native.Nat.{_+_, _*_, _≤_, _<_};
+ghost use Prim.Native.Nat.{_+_, _*_, _<_};
 ghost use lib.ListN.{length};
-ghost use Rattle.put.specs.Put.{withBit, setBit, putAt, canHold, Put};
+ghost use Rattle.put.specs.Put.{withBit, setBit, canHold, Put};
 
 // The k bits from bit `at` on become those of v, and true; false, and nothing is changed, where s has no such field or it cannot hold v.
 pub fn put(s: &mut [u8], at: usize, k: usize, v: u16) -> bool
@@ -13,7 +13,11 @@ pub fn put(s: &mut [u8], at: usize, k: usize, v: u16) -> bool
     if !can_hold(s.len(), at, k, w) {
         return false;
     }
-    put_bits(s, at, k, w);
+    let mut i = 0;
+    while i < k {
+        put_bit(s, at, i, (w >> (k - 1 - i)) % 2);
+        i += 1;
+    }
     true
 }
 
@@ -31,18 +35,6 @@ fn can_hold(n: usize, at: usize, k: usize, w: usize) -> bool
         return false;
     }
     w >> k < 1
-}
-
-// The k bits from bit `at` on become those of w, a bit a turn.
-fn put_bits(s: &mut [u8], at: usize, k: usize, w: usize)
-    requires { ⌜ (k ≤ 16) × (at + k ≤ 8 * length (now s)) ⌝ }
-    ensures { λ _. ⌜ now (s .exit) ≡ putAt (now (s .entry)) at k w ⌝ }
-{
-    let mut i = 0;
-    while i < k {
-        put_bit(s, at, i, (w >> (k - 1 - i)) % 2);
-        i += 1;
-    }
 }
 
 // Bit at + i becomes b; the sum need not be a usize.
