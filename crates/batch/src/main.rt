@@ -31,8 +31,15 @@ fn answer_next() -> bool {
     if io::read_full(0, &mut head) == 0 {
         return false;
     }
+    answer_job(length_of(head[0], head[1]))
+}
+
+// The same of a job of at most that many bytes.
+fn answer_job(most: usize) -> bool
+    requires { ⌜ most ≤ 65535 ⌝ }
+{
     let mut job = [0u8; ANNOUNCED];
-    let n = read_job(length_of(head[0], head[1]), &mut job);
+    let n = read_job(most, &mut job);
     let mut room = [0u8; LONGEST];
     let k = printed(&job[..n], &mut room);
     io::write_all(1, &room[..k])
