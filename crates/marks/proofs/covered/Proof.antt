@@ -39,10 +39,10 @@ array-read-wide : tie.Need-array-read-wide Inv-loop μ-loop
 array-read-wide c = search needs
 
 wide-requires : tie.Need-wide-requires Inv-loop μ-loop
-wide-requires c κs = search needs
+wide-requires c κs = tt
 
 row-there-requires : tie.Need-row-there-requires Inv-loop μ-loop
-row-there-requires c κs = search needs
+row-there-requires c κs = tt
 
 returns : tie.Need-returns Inv-loop μ-loop
 returns c = sym (every-false _ _ _ (c .before .before .before .loop-test .taken) (rw (c .before .before .wide .ensures .0) at (sym (c .before .row-there .ensures) ∙ not-true _ (c .if1 .taken))))

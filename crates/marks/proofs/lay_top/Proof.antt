@@ -57,7 +57,7 @@ shared-slice-read-wide c =
     omega (arith, start .pre .0 .most-eight)
 
 wide-requires : tie.Need-wide-requires Inv-loop μ-loop
-wide-requires c κs = search needs
+wide-requires c κs = tt
 
 add-k : tie.Need-add-k Inv-loop μ-loop
 add-k c = search needs

@@ -36,7 +36,7 @@ shared-slice-read-wide c =
     omega (arith, start .pre .most, start .pre .eight)
 
 wide-requires : tie.Need-wide-requires Inv-loop μ-loop
-wide-requires c κs = search needs
+wide-requires c κs = tt
 
 add-at : tie.Need-add-at Inv-loop μ-loop
 add-at c =
@@ -80,10 +80,10 @@ shared-slice-read-wide-2 c =
     omega (arith, start .pre .needed (loop .loop .p) (test .loop-test .taken))
 
 wide-requires-2 : tie.Need-wide-requires-2 Inv-loop μ-loop
-wide-requires-2 c κs = search needs
+wide-requires-2 c κs = tt
 
 higher-requires : tie.Need-higher-requires Inv-loop μ-loop
-higher-requires c κs = search needs
+higher-requires c κs = tt
 
 mul-wide-3 : tie.Need-mul-wide-3 Inv-loop μ-loop
 mul-wide-3 c =
@@ -100,7 +100,7 @@ shared-slice-read-wide-3 c =
     omega (arith, start .pre .weighed (loop .loop .p) (test .loop-test .taken))
 
 wide-requires-3 : tie.Need-wide-requires-3 Inv-loop μ-loop
-wide-requires-3 c κs = search needs
+wide-requires-3 c κs = tt
 
 add-sum : tie.Need-add-sum Inv-loop μ-loop
 add-sum c =

@@ -45,7 +45,7 @@ array-read-wide : tie.Need-array-read-wide Inv-loop μ-loop
 array-read-wide c = search needs
 
 wide-requires : tie.Need-wide-requires Inv-loop μ-loop
-wide-requires c κs = search needs
+wide-requires c κs = tt
 
 add-w : tie.Need-add-w Inv-loop μ-loop
 add-w c = search needs

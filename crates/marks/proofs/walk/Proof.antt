@@ -100,7 +100,7 @@ rank-back-requires c κs =
     )
 
 count-back-requires : tie.Need-count-back-requires Inv-loop μ-loop
-count-back-requires c κs = search needs
+count-back-requires c κs = tt
 
 loop-less : tie.Need-loop-less Inv-loop μ-loop
 loop-less c = search needs
