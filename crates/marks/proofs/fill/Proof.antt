@@ -10,7 +10,8 @@ use Rattle.marks.specs.Rows.{cutWith, taskOf, marksTo}
 use Rattle.marks.proofs.RowLaws.{rowAt-here, row-none, row-next, row-less, row-small, topAt-kept}
 use Rattle.marks.proofs.BackLaws.{length-stridesOf}
 use Rattle.marks.proofs.FillLaws.{row-ready, row-marked}
-use borrow.Author.Needs.{needs, fits-under}
+use native.Mathlib.Omega.{arith}
+use borrow.Author.Needs.{fits-under}
 use Rattle.marks.proofs.fill.Statement.{statement}
 use Rattle.marks.proofs.fill.Tie as tie
 
@@ -24,19 +25,19 @@ abbrev μ-loop : tie.MeasureT-loop
 μ-loop least most needs weights marks₀ size bases events n width frame strides counts₀ j₀ first₀ marks counts j first = size - first
 
 cast-n : tie.Need-cast-n Inv-loop μ-loop
-cast-n c = search needs
+cast-n c = omega arith
 
 array-read-wide : tie.Need-array-read-wide Inv-loop μ-loop
-array-read-wide c = search needs
+array-read-wide c = omega arith
 
 wide-requires : tie.Need-wide-requires Inv-loop μ-loop
 wide-requires c κs = tt
 
 add-width : tie.Need-add-width Inv-loop μ-loop
-add-width c = search needs
+add-width c = omega arith
 
 array-read-t18 : tie.Need-array-read-t18 Inv-loop μ-loop
-array-read-t18 c = search needs
+array-read-t18 c = omega arith
 
 strides-of-requires : tie.Need-strides-of-requires Inv-loop μ-loop
 strides-of-requires c κs =

@@ -3,15 +3,15 @@ use mathlib.Core.Path.{sym, _∙_}
 use Rattle.marks.proofs.MarkLaws.{mark-unmet, mark-holds, mark-start, mark-reached, mark-cut-off}
 use native.Mathlib.Nat.{le-of-lt}
 use borrow.Author.Tests.{not-true, not-false}
-use borrow.Author.Needs.{needs}
+use native.Mathlib.Omega.{arith}
 use Rattle.marks.proofs.mark.Statement.{statement}
 use Rattle.marks.proofs.mark.Tie as tie
 
 add-at : tie.Need-add-at
-add-at c = search needs
+add-at c = omega arith
 
 mul-row-met : tie.Need-mul-row-met
-mul-row-met c = search needs
+mul-row-met c = omega arith
 
 row-met-requires : tie.Need-row-met-requires
 row-met-requires c κs =
@@ -22,7 +22,7 @@ returns : tie.Need-returns
 returns c = mark-unmet _ _ _ _ _ _ _ _ _ (sym (c .before .row-met .ensures) ∙ not-true _ (c .if1 .taken))
 
 mul-wide : tie.Need-mul-wide
-mul-wide c = search needs
+mul-wide c = omega arith
 
 shared-slice-read-wide : tie.Need-shared-slice-read-wide
 shared-slice-read-wide c = c .before .before .before .before .before .before .before .before .before .pre .0 .weighed
@@ -31,7 +31,7 @@ wide-requires : tie.Need-wide-requires
 wide-requires c κs = tt
 
 add-is-between : tie.Need-add-is-between
-add-is-between c = search needs
+add-is-between c = omega arith
 
 is-between-requires : tie.Need-is-between-requires
 is-between-requires c κs = tt
