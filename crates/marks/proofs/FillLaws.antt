@@ -342,15 +342,15 @@ module _ (task : Task) (needs weights : List ℕ) (room : ℕ) (ready : Ready ta
   })
 
   -- the marks after one row more
-  pub row-marked : (marks marks₁ marks₂ : List ℕ) → marks₁ ≡ marksTo task needs weights first ++ drop first marks
-      → marks₂ ≡ rowMarks frame (othersOf (frame .n) bases needs weights top) needs weights strides top first (take first marks₁) (frame .width) ++ drop (first + frame .width) marks₁
-      → marks₂ ≡ marksTo task needs weights (first + frame .width) ++ drop (first + frame .width) marks
-  row-marked marks marks₁ marks₂ before after =
+  pub row-marked : (counts marks marks₁ marks₂ : List ℕ) → counts ≡ top → marks₁ ≡ marksTo task needs weights first ++ drop first marks
+      → marks₂ ≡ rowMarks frame (othersOf (task .full .n) bases needs weights counts) needs weights strides counts first (take first marks₁) (k + 1) ++ drop (first + (k + 1)) marks₁
+      → marks₂ ≡ marksTo task needs weights (first + (k + 1)) ++ drop (first + (k + 1)) marks
+  row-marked counts marks marks₁ marks₂ laid before after =
       let width : ℕ = k + 1 in
       let front : take first marks₁ ≡ marksTo task needs weights first = rw before (take-at _ _ _ (length-marksTo task needs weights first)) in
       let rest : drop (first + width) marks₁ ≡ drop (first + width) marks =
       rw before (drop-front (marksTo task needs weights first) marks first (first + width) (length-marksTo task needs weights first) (omega arith)) in
       after
-      ∙ rw (front, rest, events, bases-are, strides-are)
+      ∙ rw (laid, front, rest, events, bases-are, strides-are)
       (ap (λ (l : List ℕ). l ++ drop (first + (at (task .full .counts) 0 + 1)) marks)
       (rowMarks-is task needs weights (ready .full) (ready .rows .eight) top first at-row (omega (arith, at-row .within, ready .limit)) (at (task .full .counts) 0 + 1) (omega arith)))

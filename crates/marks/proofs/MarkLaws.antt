@@ -2,7 +2,7 @@
 use mathlib.Core.Path.{_≡_, refl, sym, ap, _∙_}
 use mathlib.Core.Bool.{Bool, true, false, _&&_}
 use mathlib.Core.List.{List, [], _∷_, _++_, append-assoc, append-nil}
-use Prim.Native.Nat.{ℕ, zero, suc, _+_, _-_, _*_, _≤_, _<_}
+use Prim.Native.Nat.{ℕ, zero, suc, _+_, _-_, _*_, _≤_, _<_, min}
 use native.Mathlib.Nat.{le-of-eq}
 use native.Mathlib.Numerals.{add-one}
 use native.Mathlib.Omega.{arith}
@@ -58,6 +58,18 @@ module _ (frame : Frame) (sum : ℕ) (needs weights strides marks c : List ℕ) 
       pub mark-cut-off : (r ≡ 0 → ⊥) → frame .n ≤ place → 2 ≡ cutMark frame sum needs weights strides marks c x r
       unfolding cutMark any
       mark-cut-off z l = rw (e, t, le-ltb _ _ l, ne-eqb _ _ z) refl
+
+-- where the cuts of a row begin that are not blank at once, and the next of them
+pub cuts-start : (x low width first room : ℕ) → x ≡ min low width → first + width ≤ room → (x ≤ x) × (x ≤ width) × (x ≤ low) × (first + x ≤ room)
+cuts-start x low width first room e h = (omega arith, omega arith, omega arith, omega arith)
+
+pub cuts-more : (x x′ low width : ℕ) → x ≡ min low width → x ≤ x′ → x′ < width → width ≤ 65536
+    → (low ≤ x′) × (x ≤ x′ + 1) × (x′ + 1 ≤ width) × (width - (x′ + 1) < width - x′) × (x′ + 1 < 65537)
+cuts-more x x′ low width e h l g = (omega arith, omega arith, omega arith, omega arith, omega arith)
+
+-- eight counts have a first
+pub some-count : (c : List ℕ) → length c ≡ 8 → 0 < length c
+some-count c e = omega arith
 
 -- two cuts that differ in their first count
 pub set-first : (c d : List ℕ) (x : ℕ) → c ≡ set d 0 (at c 0) → set c 0 x ≡ set d 0 x

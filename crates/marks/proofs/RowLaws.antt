@@ -238,6 +238,17 @@ module _ (m : Cut) (full : FullCut m) (eight : length (m .counts) ≡ 8) where
       let s : r ≡ suc (at (m .counts) 0) * j = f ∙ ap (λ (k : ℕ). k * j) (omega arith) in
       rw s (rowAt-is j (rw s at h))
 
--- where the next row begins
-pub row-next : (w j r : ℕ) → r ≡ (w + 1) * j → r + (w + 1) ≡ (w + 1) * (j + 1)
-row-next w j r e = omega arith
+-- the first row, and the next: where they begin, and that they lie within the size of the box
+pub row-none : (size w : ℕ) → (0 ≤ size) × (0 ≤ 0) × (0 ≡ w * 0)
+row-none size w = (omega arith, omega arith, omega arith)
+
+pub row-next : (w k j r b size : ℕ) → w ≡ k → r + k < b → size ≡ b → j ≤ r → r ≡ (w + 1) * j
+    → (r + (w + 1) ≤ size) × (j + 1 ≤ r + (w + 1)) × (r + (w + 1) ≡ (w + 1) * (j + 1))
+row-next w k j r b size e l s h f = (omega arith, omega arith, omega arith)
+
+-- .. so that fewer ranks are left, and the numbers stay small
+pub row-less : (w r size : ℕ) → r < size → size - (r + (w + 1)) < size - r
+row-less w r size h = omega arith
+
+pub row-small : (w j r b size : ℕ) → w < 65536 → j ≤ r → r < size → size ≡ b → b ≤ 65536 → (j + 1 < 131073) × (r + (w + 1) < 131073)
+row-small w j r b size k h l s g = (omega arith, omega arith)

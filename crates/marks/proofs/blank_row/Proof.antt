@@ -6,7 +6,6 @@ use native.Mathlib.Nat.{le-antisymm}
 use native.Mathlib.Omega.{arith}
 use lib.ListN.{length, take, drop, replicate, length-set}
 use Rattle.marks.proofs.RowLaws.{blank-none, blank-more}
-use borrow.Author.Needs.{needs}
 use Rattle.marks.proofs.blank_row.Statement.{statement}
 use Rattle.marks.proofs.blank_row.Tie as tie
 
@@ -22,7 +21,7 @@ loop-holds c =
     (omega arith, refl, blank-none (start .args .marks .now) (start .args .first))
 
 add-r : tie.Need-add-r Inv-loop μ-loop
-add-r c = search needs
+add-r c = omega arith
 
 slice-write-marks : tie.Need-slice-write-marks Inv-loop μ-loop
 slice-write-marks c =
@@ -31,10 +30,10 @@ slice-write-marks c =
     omega arith
 
 add-x : tie.Need-add-x Inv-loop μ-loop
-add-x c = search needs
+add-x c = omega arith
 
 loop-less : tie.Need-loop-less Inv-loop μ-loop
-loop-less c = search needs
+loop-less c = omega arith
 
 loop-again : tie.Need-loop-again Inv-loop μ-loop
 loop-again c =

@@ -5,7 +5,6 @@ use mir.Syntax.{w16}
 use borrow.Kind.Array.{eInt, good-length}
 use Rattle.cut.proofs.ValueLaws.{set-back}
 use Rattle.marks.proofs.SearchLaws.{back-beyond, back-none}
-use borrow.Author.Needs.{needs}
 use Rattle.marks.proofs.count_back.Statement.{statement}
 use Rattle.marks.proofs.count_back.Tie as tie
 
@@ -15,19 +14,19 @@ returns c =
     sym (back-beyond _ _ (omega (arith, good-length (eInt w16) 8 (start .args .t1) _ (start .good .0))))
 
 mul-count : tie.Need-mul-count
-mul-count c = search needs
+mul-count c = omega arith
 
 array-read-count : tie.Need-array-read-count
-array-read-count c = search needs
+array-read-count c = omega arith
 
 returns-2 : tie.Need-returns-2
 returns-2 c = sym (back-none _ _ (c .if2 .taken))
 
 mul-next : tie.Need-mul-next
-mul-next c = search needs
+mul-next c = omega arith
 
 array-write-next : tie.Need-array-write-next
-array-write-next c = search needs
+array-write-next c = omega arith
 
 returns-3 : tie.Need-returns-3
 returns-3 c =

@@ -9,7 +9,6 @@ use Rattle.cuts.specs.Below.{every}
 use Rattle.cuts.specs.Cut.{at}
 use Rattle.cuts.proofs.BelowLaws.{every-false, every-more}
 use Rattle.marks.specs.Flat.{rowThere}
-use borrow.Author.Needs.{needs}
 use Rattle.marks.proofs.covered.Statement.{statement}
 use Rattle.marks.proofs.covered.Tie as tie
 
@@ -20,38 +19,38 @@ abbrev μ-loop : tie.MeasureT-loop
 μ-loop cells rows bases events n p₀ p = n - p
 
 cast-n : tie.Need-cast-n Inv-loop μ-loop
-cast-n c = search needs
+cast-n c = omega arith
 
 loop-holds : tie.Need-loop-holds Inv-loop μ-loop
 unfolding every
 loop-holds c = (omega arith, c .before .before .pre, refl)
 
 mul-row-there : tie.Need-mul-row-there Inv-loop μ-loop
-mul-row-there c = search needs
+mul-row-there c = omega arith
 
 array-read-row-there : tie.Need-array-read-row-there Inv-loop μ-loop
-array-read-row-there c = search needs
+array-read-row-there c = omega arith
 
 mul-wide : tie.Need-mul-wide Inv-loop μ-loop
-mul-wide c = search needs
+mul-wide c = omega arith
 
 array-read-wide : tie.Need-array-read-wide Inv-loop μ-loop
-array-read-wide c = search needs
+array-read-wide c = omega arith
 
 wide-requires : tie.Need-wide-requires Inv-loop μ-loop
-wide-requires c κs = search needs
+wide-requires c κs = tt
 
 row-there-requires : tie.Need-row-there-requires Inv-loop μ-loop
-row-there-requires c κs = search needs
+row-there-requires c κs = tt
 
 returns : tie.Need-returns Inv-loop μ-loop
 returns c = sym (every-false _ _ _ (c .before .before .before .loop-test .taken) (rw (c .before .before .wide .ensures .0) at (sym (c .before .row-there .ensures) ∙ not-true _ (c .if1 .taken))))
 
 add-p : tie.Need-add-p Inv-loop μ-loop
-add-p c = search needs
+add-p c = omega arith
 
 loop-less : tie.Need-loop-less Inv-loop μ-loop
-loop-less c = search needs
+loop-less c = omega arith
 
 loop-again : tie.Need-loop-again Inv-loop μ-loop
 loop-again c =

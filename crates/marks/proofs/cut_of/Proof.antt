@@ -7,21 +7,20 @@ use native.Mathlib.Omega.{arith}
 use Rattle.cut.proofs.ValueLaws.{eight-counts}
 use Rattle.marks.specs.Rows.{cutAt}
 use Rattle.marks.proofs.RowLaws.{set-topAt-rank}
-use borrow.Author.Needs.{needs}
 use Rattle.marks.proofs.cut_of.Statement.{statement}
 use Rattle.marks.proofs.cut_of.Tie as tie
 
 cast-n : tie.Need-cast-n
-cast-n c = search needs
+cast-n c = omega arith
 
 array-read-wide : tie.Need-array-read-wide
-array-read-wide c = search needs
+array-read-wide c = omega arith
 
 wide-requires : tie.Need-wide-requires
-wide-requires c κs = search needs
+wide-requires c κs = tt
 
 add-width : tie.Need-add-width
-add-width c = search needs
+add-width c = omega arith
 
 slice-aggregate-lay-top : tie.Need-slice-aggregate-lay-top
 slice-aggregate-lay-top c =
@@ -29,10 +28,10 @@ slice-aggregate-lay-top c =
     sym (eight-counts (start .args .full) _ (start .good .0))
 
 div-lay-top : tie.Need-div-lay-top
-div-lay-top c = search needs
+div-lay-top c = omega arith
 
 slice-aggregate-lay-top-2 : tie.Need-slice-aggregate-lay-top-2
-slice-aggregate-lay-top-2 c = search needs
+slice-aggregate-lay-top-2 c = omega arith
 
 lay-top-requires : tie.Need-lay-top-requires
 lay-top-requires c κs =
@@ -40,7 +39,7 @@ lay-top-requires c κs =
     (start .pre .0, eight-counts (start .args .full) _ (start .good .0), refl, refl)
 
 rem-counts : tie.Need-rem-counts
-rem-counts c = search needs
+rem-counts c = omega arith
 
 cast-counts : tie.Need-cast-counts
 cast-counts c =
@@ -49,7 +48,7 @@ cast-counts c =
     omega (arith, mod-lt (start .args .r) {m = wide .result + 1} (omega arith))
 
 array-write-counts : tie.Need-array-write-counts
-array-write-counts c = search needs
+array-write-counts c = omega arith
 
 returns : tie.Need-returns
 unfolding cutAt

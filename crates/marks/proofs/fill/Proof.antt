@@ -3,14 +3,15 @@ use mathlib.Core.Path.{_≡_, refl, sym, ap, _∙_}
 use mathlib.Core.List.{_++_}
 use Prim.Native.Nat.{_-_, _*_, _≤_}
 use native.Mathlib.Nat.{le-antisymm}
-use native.Mathlib.Omega.{arith}
+use mir.Syntax.{w64}
 use lib.ListN.{length, drop, replicate}
 use Rattle.cuts.specs.Computed.{tabled}
 use Rattle.marks.specs.Rows.{cutWith, taskOf, marksTo}
-use Rattle.marks.proofs.RowLaws.{rowAt-here, row-next, topAt-kept}
+use Rattle.marks.proofs.RowLaws.{rowAt-here, row-none, row-next, row-less, row-small, topAt-kept}
 use Rattle.marks.proofs.BackLaws.{length-stridesOf}
 use Rattle.marks.proofs.FillLaws.{row-ready, row-marked}
-use borrow.Author.Needs.{needs}
+use native.Mathlib.Omega.{arith}
+use borrow.Author.Needs.{fits-under}
 use Rattle.marks.proofs.fill.Statement.{statement}
 use Rattle.marks.proofs.fill.Tie as tie
 
@@ -24,19 +25,19 @@ abbrev μ-loop : tie.MeasureT-loop
 μ-loop least most needs weights marks₀ size bases events n width frame strides counts₀ j₀ first₀ marks counts j first = size - first
 
 cast-n : tie.Need-cast-n Inv-loop μ-loop
-cast-n c = search needs
+cast-n c = omega arith
 
 array-read-wide : tie.Need-array-read-wide Inv-loop μ-loop
-array-read-wide c = search needs
+array-read-wide c = omega arith
 
 wide-requires : tie.Need-wide-requires Inv-loop μ-loop
-wide-requires c κs = search needs
+wide-requires c κs = tt
 
 add-width : tie.Need-add-width Inv-loop μ-loop
-add-width c = search needs
+add-width c = omega arith
 
 array-read-t18 : tie.Need-array-read-t18 Inv-loop μ-loop
-array-read-t18 c = search needs
+array-read-t18 c = omega arith
 
 strides-of-requires : tie.Need-strides-of-requires Inv-loop μ-loop
 strides-of-requires c κs =
@@ -45,7 +46,9 @@ strides-of-requires c κs =
 
 loop-holds : tie.Need-loop-holds Inv-loop μ-loop
 unfolding marksTo tabled
-loop-holds c = (omega arith, omega arith, omega arith, refl, refl, refl, refl)
+loop-holds c =
+    let none = row-none _ _ in
+    (none .0, none .1, none .2, refl, refl, refl, refl)
 
 slice-aggregate-lay-top : tie.Need-slice-aggregate-lay-top Inv-loop μ-loop
 slice-aggregate-lay-top c =
@@ -83,21 +86,25 @@ fill-row-requires c κs =
     let start = test .before .before .before .before .before .before .before .before .before in
     let ready = start .pre .0 in
     let row =
-    rowAt-here (start .args .full) (ready .full) (ready .rows .eight) (wide .result) (loop .j) (loop .first) (wide .ensures .0) (loop .inv .2) (omega (arith, test .loop-test .taken, start .pre .1)) in
+    rowAt-here (start .args .full) (ready .full) (ready .rows .eight) (wide .result) (loop .j) (loop .first) (wide .ensures .0) (loop .inv .2) (rw (start .pre .1) at (test .loop-test .taken)) in
     rw (loop .inv .3, c .before .before .before .before .before .lay-top .ensures) (row-ready _ _ _ _ ready _ _ row _ _ refl (strides-of .ensures) _ (wide .ensures .0))
 
 add-j : tie.Need-add-j Inv-loop μ-loop
 add-j c =
-    let start = c .before .before .before .before .before .before .before .before .before .before .before .before .before .before .before .before .before .before .before .before .before in
-    omega (arith, start .pre .0 .limit)
+    let test = c .before .before .before .before .before .before .before .before .before .before .before .before in
+    let start = test .before .before .before .before .before .before .before .before .before in
+    let loop = test .before .loop in
+    fits-under w64 _ 131073 (row-small _ _ _ _ _ (test .before .before .before .wide .ensures .1) (loop .inv .1) (test .loop-test .taken) (start .pre .1) (start .pre .0 .limit) .0) tt
 
 add-first : tie.Need-add-first Inv-loop μ-loop
 add-first c =
-    let start = c .before .before .before .before .before .before .before .before .before .before .before .before .before .before .before .before .before .before .before .before .before in
-    omega (arith, start .pre .0 .limit)
+    let test = c .before .before .before .before .before .before .before .before .before .before .before .before in
+    let start = test .before .before .before .before .before .before .before .before .before in
+    let loop = test .before .loop in
+    fits-under w64 _ 131073 (row-small _ _ _ _ _ (test .before .before .before .wide .ensures .1) (loop .inv .1) (test .loop-test .taken) (start .pre .1) (start .pre .0 .limit) .1) tt
 
 loop-less : tie.Need-loop-less Inv-loop μ-loop
-loop-less c = search needs
+loop-less c = row-less _ _ _ (c .before .before .before .before .before .before .before .before .before .before .before .before .loop-test .taken)
 
 loop-again : tie.Need-loop-again Inv-loop μ-loop
 loop-again c =
@@ -108,15 +115,16 @@ loop-again c =
     let start = test .before .before .before .before .before .before .before .before .before in
     let ready = start .pre .0 in
     let row =
-    rowAt-here (start .args .full) (ready .full) (ready .rows .eight) (wide .result) (loop .j) (loop .first) (wide .ensures .0) (loop .inv .2) (omega (arith, test .loop-test .taken, start .pre .1)) in
+    rowAt-here (start .args .full) (ready .full) (ready .rows .eight) (wide .result) (loop .j) (loop .first) (wide .ensures .0) (loop .inv .2) (rw (start .pre .1) at (test .loop-test .taken)) in
     let lay-top = c .before .before .before .before .before .before .before .before .before .lay-top in
     let fill-row = c .before .before .before .fill-row in
+    let next = row-next _ _ _ _ _ _ (wide .ensures .0) (row .within) (start .pre .1) (loop .inv .1) (loop .inv .2) in
     let kept = topAt-kept (start .args .full) (ready .full) (ready .rows .eight) _ _ _ _ (lay-top .ensures) (fill-row .ensures .1) in (
-      omega (arith, row .within, wide .ensures .0, start .pre .1),
-      omega (arith, loop .inv .1),
-      row-next _ _ _ (loop .inv .2),
+      next .0,
+      next .1,
+      next .2,
       fill-row .kept .1 .1 .1 .1 .1 .0 ∙ loop .inv .3,
-      row-marked _ _ _ _ ready _ _ row _ _ refl (strides-of .ensures) _ (wide .ensures .0) _ _ _ (loop .inv .4) (rw (lay-top .ensures) at (fill-row .ensures .0)),
+      row-marked _ _ _ _ ready _ _ row _ _ refl (strides-of .ensures) _ (wide .ensures .0) _ _ _ _ (lay-top .ensures) (loop .inv .4) (fill-row .ensures .0),
       kept .0,
       kept .1,
     )

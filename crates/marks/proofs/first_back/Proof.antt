@@ -6,7 +6,6 @@ use native.Mathlib.Omega.{arith}
 use borrow.Author.Count.{below-none, below-more}
 use Rattle.marks.specs.Rows.{leadsBack}
 use Rattle.marks.proofs.SearchLaws.{first-found, first-none}
-use borrow.Author.Needs.{needs}
 use Rattle.marks.proofs.first_back.Statement.{statement}
 use Rattle.marks.proofs.first_back.Tie as tie
 
@@ -23,19 +22,19 @@ loop-holds c =
     (omega arith, rw e (below-none _))
 
 sub-p : tie.Need-sub-p Inv-loop μ-loop
-sub-p c = search needs
+sub-p c = omega arith
 
 mul-leads-back : tie.Need-mul-leads-back Inv-loop μ-loop
-mul-leads-back c = search needs
+mul-leads-back c = omega arith
 
 shared-slice-read-leads-back : tie.Need-shared-slice-read-leads-back Inv-loop μ-loop
-shared-slice-read-leads-back c = search needs
+shared-slice-read-leads-back c = omega arith
 
 mul-leads-back-2 : tie.Need-mul-leads-back-2 Inv-loop μ-loop
-mul-leads-back-2 c = search needs
+mul-leads-back-2 c = omega arith
 
 shared-slice-read-leads-back-2 : tie.Need-shared-slice-read-leads-back-2 Inv-loop μ-loop
-shared-slice-read-leads-back-2 c = search needs
+shared-slice-read-leads-back-2 c = omega arith
 
 leads-back-requires : tie.Need-leads-back-requires Inv-loop μ-loop
 leads-back-requires c κs =
@@ -49,10 +48,10 @@ returns c =
     (sym (first-found _ _ _ (omega arith) (loop .inv .1) (sym (c .before .leads-back .ensures) ∙ c .if1 .taken)), omega arith)
 
 sub-left : tie.Need-sub-left Inv-loop μ-loop
-sub-left c = search needs
+sub-left c = omega arith
 
 loop-less : tie.Need-loop-less Inv-loop μ-loop
-loop-less c = search needs
+loop-less c = omega arith
 
 loop-again : tie.Need-loop-again Inv-loop μ-loop
 unfolding leadsBack

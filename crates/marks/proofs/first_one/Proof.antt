@@ -9,7 +9,6 @@ use borrow.Author.Count.{below-none, below-more}
 use borrow.Author.Tests.{eq-eqb, ne-eqb}
 use Rattle.cuts.specs.Cut.{at}
 use Rattle.marks.proofs.SearchLaws.{first-found, first-none}
-use borrow.Author.Needs.{needs}
 use Rattle.marks.proofs.first_one.Statement.{statement}
 use Rattle.marks.proofs.first_one.Tie as tie
 
@@ -23,16 +22,16 @@ loop-holds : tie.Need-loop-holds Inv-loop μ-loop
 loop-holds c = (omega arith, below-none _)
 
 shared-slice-read-if1 : tie.Need-shared-slice-read-if1 Inv-loop μ-loop
-shared-slice-read-if1 c = search needs
+shared-slice-read-if1 c = omega arith
 
 returns : tie.Need-returns Inv-loop μ-loop
 returns c = sym (first-found _ _ _ (omega arith) (c .before .before .before .loop .inv .1) (eq-eqb _ _ (c .if1 .taken)))
 
 add-r : tie.Need-add-r Inv-loop μ-loop
-add-r c = search needs
+add-r c = omega arith
 
 loop-less : tie.Need-loop-less Inv-loop μ-loop
-loop-less c = search needs
+loop-less c = omega arith
 
 loop-again : tie.Need-loop-again Inv-loop μ-loop
 loop-again c =

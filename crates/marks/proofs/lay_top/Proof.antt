@@ -10,7 +10,6 @@ use Rattle.cuts.specs.Rank.{weight}
 use Rattle.cuts.proofs.TabLaws.{tab-more}
 use Rattle.marks.specs.Rows.{cutWith}
 use Rattle.marks.proofs.RowLaws.{digitAt, digitAt-more, digits-left, top-one, topAt-laid}
-use borrow.Author.Needs.{needs}
 use Rattle.marks.proofs.lay_top.Statement.{statement}
 use Rattle.marks.proofs.lay_top.Tie as tie
 
@@ -44,7 +43,7 @@ loop-holds c =
     )
 
 add-p : tie.Need-add-p Inv-loop μ-loop
-add-p c = search needs
+add-p c = omega arith
 
 mul-wide : tie.Need-mul-wide Inv-loop μ-loop
 mul-wide c =
@@ -57,10 +56,10 @@ shared-slice-read-wide c =
     omega (arith, start .pre .0 .most-eight)
 
 wide-requires : tie.Need-wide-requires Inv-loop μ-loop
-wide-requires c κs = search needs
+wide-requires c κs = tt
 
 add-k : tie.Need-add-k Inv-loop μ-loop
-add-k c = search needs
+add-k c = omega arith
 
 rem-counts : tie.Need-rem-counts Inv-loop μ-loop
 rem-counts c = omega arith
@@ -87,7 +86,7 @@ add-i c =
     omega (arith, start .pre .0 .most-eight)
 
 loop-less : tie.Need-loop-less Inv-loop μ-loop
-loop-less c = search needs
+loop-less c = omega arith
 
 loop-again : tie.Need-loop-again Inv-loop μ-loop
 loop-again c =

@@ -4,7 +4,6 @@ use Prim.Native.Nat.{_-_, _≤_}
 use native.Mathlib.Omega.{arith}
 use borrow.Author.Tests.{not-true, not-false}
 use Rattle.marks.proofs.OthersLaws.{OthersTo, others-start, others-more, others-unmet, others-done}
-use borrow.Author.Needs.{needs}
 use Rattle.marks.proofs.others_of.Statement.{statement}
 use Rattle.marks.proofs.others_of.Tie as tie
 
@@ -20,7 +19,7 @@ loop-holds c =
     (omega arith, start .pre .some, others-start _ _ _ _ _)
 
 mul-at : tie.Need-mul-at Inv-loop μ-loop
-mul-at c = search needs
+mul-at c = omega arith
 
 shared-slice-read-at : tie.Need-shared-slice-read-at Inv-loop μ-loop
 shared-slice-read-at c =
@@ -28,7 +27,7 @@ shared-slice-read-at c =
     omega (arith, start .pre .most, start .pre .starts)
 
 mul-wide : tie.Need-mul-wide Inv-loop μ-loop
-mul-wide c = search needs
+mul-wide c = omega arith
 
 shared-slice-read-wide : tie.Need-shared-slice-read-wide Inv-loop μ-loop
 shared-slice-read-wide c =
@@ -36,7 +35,7 @@ shared-slice-read-wide c =
     omega (arith, start .pre .most, start .pre .eight)
 
 wide-requires : tie.Need-wide-requires Inv-loop μ-loop
-wide-requires c κs = search needs
+wide-requires c κs = tt
 
 add-at : tie.Need-add-at Inv-loop μ-loop
 add-at c =
@@ -80,10 +79,10 @@ shared-slice-read-wide-2 c =
     omega (arith, start .pre .needed (loop .loop .p) (test .loop-test .taken))
 
 wide-requires-2 : tie.Need-wide-requires-2 Inv-loop μ-loop
-wide-requires-2 c κs = search needs
+wide-requires-2 c κs = tt
 
 higher-requires : tie.Need-higher-requires Inv-loop μ-loop
-higher-requires c κs = search needs
+higher-requires c κs = tt
 
 mul-wide-3 : tie.Need-mul-wide-3 Inv-loop μ-loop
 mul-wide-3 c =
@@ -100,7 +99,7 @@ shared-slice-read-wide-3 c =
     omega (arith, start .pre .weighed (loop .loop .p) (test .loop-test .taken))
 
 wide-requires-3 : tie.Need-wide-requires-3 Inv-loop μ-loop
-wide-requires-3 c κs = search needs
+wide-requires-3 c κs = tt
 
 add-sum : tie.Need-add-sum Inv-loop μ-loop
 add-sum c =
@@ -110,10 +109,10 @@ add-sum c =
     omega (arith, loop .loop .inv .2 .small, start .pre .most)
 
 add-p : tie.Need-add-p Inv-loop μ-loop
-add-p c = search needs
+add-p c = omega arith
 
 loop-less : tie.Need-loop-less Inv-loop μ-loop
-loop-less c = search needs
+loop-less c = omega arith
 
 loop-again : tie.Need-loop-again Inv-loop μ-loop
 loop-again c =

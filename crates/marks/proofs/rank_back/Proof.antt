@@ -1,6 +1,6 @@
 -- The test is the one of the definition.
 use borrow.Author.Tests.{lt-ltb, le-ltb}
-use borrow.Author.Needs.{needs}
+use native.Mathlib.Omega.{arith}
 use Rattle.marks.proofs.rank_back.Statement.{statement}
 use Rattle.marks.proofs.rank_back.Tie as tie
 
@@ -8,10 +8,10 @@ returns : tie.Need-returns
 returns c = simp (le-ltb _ _ (c .if1 .taken))
 
 mul-result : tie.Need-mul-result
-mul-result c = search needs
+mul-result c = omega arith
 
 shared-slice-read-result : tie.Need-shared-slice-read-result
-shared-slice-read-result c = search needs
+shared-slice-read-result c = omega arith
 
 sub-result : tie.Need-sub-result
 sub-result c = c .before .before .pre .1 (c .before .if1 .left)

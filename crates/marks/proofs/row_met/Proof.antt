@@ -8,7 +8,6 @@ use borrow.Author.Tests.{le-leb, lt-leb}
 use Rattle.cuts.specs.Below.{every}
 use Rattle.cuts.proofs.BelowLaws.{every-false, every-more}
 use Rattle.marks.specs.Flat.{rowMet}
-use borrow.Author.Needs.{needs}
 use Rattle.marks.proofs.row_met.Statement.{statement}
 use Rattle.marks.proofs.row_met.Tie as tie
 
@@ -23,29 +22,29 @@ unfolding rowMet every
 loop-holds c = (omega arith, refl)
 
 add-at : tie.Need-add-at Inv-loop μ-loop
-add-at c = search needs
+add-at c = omega arith
 
 mul-if1 : tie.Need-mul-if1 Inv-loop μ-loop
-mul-if1 c = search needs
+mul-if1 c = omega arith
 
 shared-slice-read-if1 : tie.Need-shared-slice-read-if1 Inv-loop μ-loop
-shared-slice-read-if1 c = search needs
+shared-slice-read-if1 c = omega arith
 
 mul-if1-2 : tie.Need-mul-if1-2 Inv-loop μ-loop
-mul-if1-2 c = search needs
+mul-if1-2 c = omega arith
 
 shared-slice-read-if1-2 : tie.Need-shared-slice-read-if1-2 Inv-loop μ-loop
-shared-slice-read-if1-2 c = search needs
+shared-slice-read-if1-2 c = omega arith
 
 returns : tie.Need-returns Inv-loop μ-loop
 unfolding rowMet
 returns c = sym (every-false _ _ _ (c .before .before .before .loop-test .taken) (lt-leb _ _ (c .if1 .taken)))
 
 add-q : tie.Need-add-q Inv-loop μ-loop
-add-q c = search needs
+add-q c = omega arith
 
 loop-less : tie.Need-loop-less Inv-loop μ-loop
-loop-less c = search needs
+loop-less c = omega arith
 
 loop-again : tie.Need-loop-again Inv-loop μ-loop
 unfolding rowMet

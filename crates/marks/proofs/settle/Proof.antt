@@ -3,15 +3,14 @@ use mir.Syntax.{w64}
 use borrow.Kind.Array.{eInt, good-length}
 use Rattle.cut.proofs.ValueLaws.{eight-counts}
 use Rattle.marks.proofs.FlatLaws.{size-zero, size-box, ready-of, settles-none, settles-some}
-use borrow.Author.Needs.{needs}
 use Rattle.marks.proofs.settle.Statement.{statement}
 use Rattle.marks.proofs.settle.Tie as tie
 
 size-of-requires : tie.Need-size-of-requires
-size-of-requires c κs = search needs
+size-of-requires c κs = tt
 
 no-witness-requires : tie.Need-no-witness-requires
-no-witness-requires c κs = search needs
+no-witness-requires c κs = tt
 
 returns : tie.Need-returns
 returns c = rw (c .no-witness .ensures) (settles-none _ _ _ _ _ _ _ _ (size-zero _ _ _ _ _ _ _ (c .before .before .size-of .ensures) (c .before .if1 .taken)))

@@ -7,12 +7,11 @@ use Rattle.cut.specs.Value.{countsOf}
 use Rattle.cuts.proofs.RankLaws.{box-pos}
 use Rattle.cut.proofs.ValueRight.{boxOf-full}
 use Rattle.marks.proofs.FlatLaws.{sized, box-size, size-none, size-some}
-use borrow.Author.Needs.{needs}
 use Rattle.marks.proofs.size_of.Statement.{statement}
 use Rattle.marks.proofs.size_of.Tie as tie
 
 box-of-requires : tie.Need-box-of-requires
-box-of-requires c κs = search needs
+box-of-requires c κs = tt
 
 returns : tie.Need-returns
 returns c =

@@ -12,7 +12,6 @@ use Rattle.cut.proofs.ValueLaws.{eight-counts, weight-le}
 use Rattle.cut.proofs.ValueRight.{box-loop}
 use Rattle.marks.specs.Rows.{stridesOf}
 use Rattle.marks.proofs.RowLaws.{weight-next}
-use borrow.Author.Needs.{needs}
 use Rattle.marks.proofs.strides_of.Statement.{statement}
 use Rattle.marks.proofs.strides_of.Tie as tie
 
@@ -23,7 +22,7 @@ abbrev μ-loop : tie.MeasureT-loop
 μ-loop events n strides₀ w₀ p₀ strides w p = n - p
 
 cast-n : tie.Need-cast-n Inv-loop μ-loop
-cast-n c = search needs
+cast-n c = omega arith
 
 loop-holds : tie.Need-loop-holds Inv-loop μ-loop
 unfolding tab weight productTo
@@ -33,22 +32,22 @@ loop-holds c =
     (omega arith, start .pre .0 .most-eight, omega (arith, box-loop _ (start .pre .0) l), refl, refl)
 
 mul-strides : tie.Need-mul-strides Inv-loop μ-loop
-mul-strides c = search needs
+mul-strides c = omega arith
 
 array-write-strides : tie.Need-array-write-strides Inv-loop μ-loop
-array-write-strides c = search needs
+array-write-strides c = omega arith
 
 mul-wide : tie.Need-mul-wide Inv-loop μ-loop
-mul-wide c = search needs
+mul-wide c = omega arith
 
 array-read-wide : tie.Need-array-read-wide Inv-loop μ-loop
-array-read-wide c = search needs
+array-read-wide c = omega arith
 
 wide-requires : tie.Need-wide-requires Inv-loop μ-loop
-wide-requires c κs = search needs
+wide-requires c κs = tt
 
 add-w : tie.Need-add-w Inv-loop μ-loop
-add-w c = search needs
+add-w c = omega arith
 
 mul-w : tie.Need-mul-w Inv-loop μ-loop
 mul-w c =
@@ -59,10 +58,10 @@ mul-w c =
     omega (arith, f, weight-le (start .args .full .counts) (loop .p + 1) (start .args .full .n) (omega arith))
 
 add-p : tie.Need-add-p Inv-loop μ-loop
-add-p c = search needs
+add-p c = omega arith
 
 loop-less : tie.Need-loop-less Inv-loop μ-loop
-loop-less c = search needs
+loop-less c = omega arith
 
 loop-again : tie.Need-loop-again Inv-loop μ-loop
 loop-again c =

@@ -9,7 +9,6 @@ use Rattle.cuts.proofs.RankLaws.{box-pos, rank-lt}
 use Rattle.cut.proofs.ValueLaws.{eight-counts}
 use Rattle.marks.proofs.BackLaws.{Walked, walked-start, walked-steps, walked-found, walked-more, walked-done, length-stridesOf}
 use Rattle.marks.proofs.FlatLaws.{rank-last, walked-none, walked-some}
-use borrow.Author.Needs.{needs}
 use Rattle.marks.proofs.walk.Statement.{statement}
 use Rattle.marks.proofs.walk.Tie as tie
 
@@ -35,7 +34,7 @@ returns c =
     walked-none _ _ _ _ (rank-last (start .args .full) (start .args .size) (start .pre .2)) (c .if1 .taken)
 
 cast-n : tie.Need-cast-n Inv-loop μ-loop
-cast-n c = search needs
+cast-n c = omega arith
 
 strides-of-requires : tie.Need-strides-of-requires Inv-loop μ-loop
 strides-of-requires c κs =
@@ -70,10 +69,10 @@ first-back-requires c κs =
     )
 
 sub-k : tie.Need-sub-k Inv-loop μ-loop
-sub-k c = search needs
+sub-k c = omega arith
 
 add-path : tie.Need-add-path Inv-loop μ-loop
-add-path c = search needs
+add-path c = omega arith
 
 cast-path : tie.Need-cast-path Inv-loop μ-loop
 cast-path c =
@@ -100,10 +99,10 @@ rank-back-requires c κs =
     )
 
 count-back-requires : tie.Need-count-back-requires Inv-loop μ-loop
-count-back-requires c κs = search needs
+count-back-requires c κs = tt
 
 loop-less : tie.Need-loop-less Inv-loop μ-loop
-loop-less c = search needs
+loop-less c = omega arith
 
 loop-again : tie.Need-loop-again Inv-loop μ-loop
 loop-again c =
