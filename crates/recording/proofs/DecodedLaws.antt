@@ -20,8 +20,8 @@ use Rattle.recording.proofs.DecodeLaws.{stamps-some, levels-some}
 use Rattle.recording.proofs.FaultLaws.{checkedBy-0, checkedBy-refused}
 
 -- neither room is too short
-pub fits-read : (total x y : ℕ) → not (leb (8 * total) x && leb total y) ≡ false → (8 * total ≤ x) × (total ≤ y)
-fits-read total x y h = let (a, b) = and-true (leb (8 * total) x) (leb total y) (not-false _ h) in (leb-true _ _ a, leb-true _ _ b)
+pub fits-read : (short : Bool) (total x y : ℕ) → short ≡ not (leb (8 * total) x && leb total y) → short ≡ false → (8 * total ≤ x) × (total ≤ y)
+fits-read short total x y e h = let (a, b) = and-true (leb (8 * total) x) (leb total y) (not-false _ (sym e ∙ h)) in (leb-true _ _ a, leb-true _ _ b)
 
 module _ (lead w : ℕ) (s a b rows : List ℕ) (v : ℕ) (h : CheckedRows lead w s v rows) where
   abbrev T : ℕ
@@ -43,20 +43,21 @@ module _ (lead w : ℕ) (s a b rows : List ℕ) (v : ℕ) (h : CheckedRows lead 
     unfolding stampsFit levelsFit
     fit-is = rw (le-leb (nAt lead s) 8 (h .laid e .n-most), et) refl
 
-    pub decode-short : not fit ≡ true → Decodes lead w s a b Decoded.Short a b
-    decode-short z = record { answer = rw (reply-is, fit-is, not-true fit z) refl; stamps-after = refl; levels-after = refl }
+    module _ (short : Bool) (es : short ≡ not fit) where
+      pub decode-short : short ≡ true → Decodes lead w s a b Decoded.Short a b
+      decode-short z = record { answer = rw (reply-is, fit-is, not-true fit (sym es ∙ z)) refl; stamps-after = refl; levels-after = refl }
 
-    pub decode-done : not fit ≡ false → (a′ b′ : List ℕ) → a′ ≡ take (8 * total) rows ++ drop (8 * total) a
-        → b′ ≡ tab total (levelCell lead w s (nAt lead s)) ++ drop total b → Decodes lead w s a b Decoded.Done a′ b′
-    decode-done z a′ b′ ea eb =
-        let (la, lb) = fits-read total (length a) (length b) z in
-        let r = h .laid e in
-        let t : take (8 * total) rows ≡ tab (8 * total) (stampCell lead w s (nAt lead s)) = rw et (r .table) in
-        record {
-          answer = rw (reply-is, fit-is, not-false fit z) refl;
-          stamps-after = stamps-some lead w s (nAt lead s) a refl total et (r .n-most) la a′ (ea ∙ ap (λ (l : List ℕ). l ++ drop (8 * total) a) t) .1;
-          levels-after = levels-some lead w s (nAt lead s) b refl total et (r .n-most) lb b′ eb .1;
-        }
+      pub decode-done : short ≡ false → (a′ b′ : List ℕ) → a′ ≡ take (8 * total) rows ++ drop (8 * total) a
+          → b′ ≡ tab total (levelCell lead w s (nAt lead s)) ++ drop total b → Decodes lead w s a b Decoded.Done a′ b′
+      decode-done z a′ b′ ea eb =
+          let (la, lb) = fits-read short total (length a) (length b) es z in
+          let r = h .laid e in
+          let t : take (8 * total) rows ≡ tab (8 * total) (stampCell lead w s (nAt lead s)) = rw et (r .table) in
+          record {
+            answer = rw (reply-is, fit-is, not-false fit (sym es ∙ z)) refl;
+            stamps-after = stamps-some lead w s (nAt lead s) a refl total et (r .n-most) la a′ (ea ∙ ap (λ (l : List ℕ). l ++ drop (8 * total) a) t) .1;
+            levels-after = levels-some lead w s (nAt lead s) b refl total et (r .n-most) lb b′ eb .1;
+          }
 
 -- two permitted replies, with their rooms, are equal
 pub decode-unique : (lead w : ℕ) (s a b : List ℕ) (r r′ : Decoded) (a₁ b₁ a₂ b₂ : List ℕ) → Decodes lead w s a b r a₁ b₁ → Decodes lead w s a b r′ a₂ b₂ → (r ≡ r′) × (a₁ ≡ a₂) × (b₁ ≡ b₂)

@@ -1,5 +1,4 @@
 -- The checks come first; where they accept, the table of stamps that they laid is copied and that of the levels laid, if both rooms have them.
-use mathlib.Core.Path.{sym, _∙_}
 use native.Mathlib.Omega.{arith}
 use Rattle.recording.proofs.DecodedLaws.{decode-refused, decode-short, decode-done, fits-read}
 use borrow.Author.Needs.{needs}
@@ -29,7 +28,7 @@ returns-2 c =
     let s = c .before in
     let T = s .before in
     let E = T .before in
-    decode-short _ _ _ _ _ _ _ (E .before .before .check-rows .ensures) (E .if1 .left) _ (T .total .ensures .0) (sym (s .short .ensures) ∙ c .if2 .taken)
+    decode-short _ _ _ _ _ _ _ (E .before .before .check-rows .ensures) (E .if1 .left) _ (T .total .ensures .0) _ (s .short .ensures) (c .if2 .taken)
 
 slice-aggregate-copy : tie.Need-slice-aggregate-copy
 slice-aggregate-copy c = search needs
@@ -38,14 +37,14 @@ mul-copy : tie.Need-mul-copy
 mul-copy c = search needs
 
 copy-requires : tie.Need-copy-requires
-copy-requires c κs = (omega arith, fits-read _ _ _ (sym (c .before .before .before .short .ensures) ∙ c .before .before .if2 .left) .0)
+copy-requires c κs = (omega arith, fits-read _ _ _ _ (c .before .before .before .short .ensures) (c .before .before .if2 .left) .0)
 
 lay-levels-requires : tie.Need-lay-levels-requires
 lay-levels-requires c κs =
     let e = c .before .before .before .before .before .before in
     let T = e .before .before in
     let E = T .before in
-    (omega arith, omega arith, omega arith, E .before .before .check-rows .ensures .laid (E .if1 .left) .n-most, T .total .ensures .1, fits-read _ _ _ (sym (e .before .short .ensures) ∙ e .if2 .left) .1)
+    (omega arith, omega arith, omega arith, E .before .before .check-rows .ensures .laid (E .if1 .left) .n-most, T .total .ensures .1, fits-read _ _ _ _ (e .before .short .ensures) (e .if2 .left) .1)
 
 same-length : tie.Need-same-length
 same-length c = search needs
@@ -58,7 +57,7 @@ returns-3 c =
     let s = c .before .before .before .before .before .before .before .before .before .before in
     let T = s .before in
     let E = T .before in
-    decode-done _ _ _ _ _ _ _ (E .before .before .check-rows .ensures) (E .if1 .left) _ (T .total .ensures .0) (sym (s .short .ensures) ∙ c .before .before .before .before .before .before .before .before .before .if2 .left) _ _ (c .before .before .before .before .before .before .copy .ensures) (c .before .before .lay-levels .ensures)
+    decode-done _ _ _ _ _ _ _ (E .before .before .check-rows .ensures) (E .if1 .left) _ (T .total .ensures .0) _ (s .short .ensures) (c .before .before .before .before .before .before .before .before .before .if2 .left) _ _ (c .before .before .before .before .before .before .copy .ensures) (c .before .before .lay-levels .ensures)
 
 pub decode-spec : {M : Type 1} → statement M
 decode-spec =
