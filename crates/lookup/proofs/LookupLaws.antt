@@ -31,6 +31,7 @@ use Rattle.recording.specs.Decode.{eventsAt, fullOf}
 use Rattle.recording.specs.declared.Refusal.{Refusal}
 use Rattle.recording.specs.declared.Checked.{Checked}
 use Rattle.lookup.specs.declared.Found.{Found}
+use Rattle.recording.proofs.AcceptedRight.{accepted-accepts}
 use Rattle.recording.proofs.FormLaws.{stations-read, count-read, origin-read, number-read, level-read, stamp-read, start-read}
 use Rattle.recording.proofs.PlaceLaws.{peeked-read, firstAt-le, firstAt-lt}
 use Rattle.recording.proofs.DecodeLaws.{eventsAt-in}
@@ -125,6 +126,9 @@ module _ (lead w : ℕ) (s : List ℕ) (n p : ℕ) (en : n ≡ nAt lead s) (hp :
             rw (mod-eq-of-lt o-low, o-is, k-is, level-signed l z l-low ez, l-is, et, tab-same 8 _ _ (λ q j. place-counted e (omega arith) b b-is q), origin-read lead w s p e (omega arith) (omega arith), number-read lead w s p e (omega arith) (omega arith), level-read lead w s p e (omega arith) (omega arith), en)
             refl
 
+true-not : true ≡ false → ⊥
+true-not e = let z : _≡_ {A = ℕ} 0 1 = ap (λ (b : Bool). cond b 0 1) e in omega arith
+
 -- the answers, in the order of the checks
 module _ (lead w : ℕ) (s : List ℕ) (station event : ℕ) where
   pub lookupOf-refused : (x : Refusal) → checkedOf lead w s ≡ Checked.Refused x → notFound x ≡ lookupOf lead w s station event
@@ -152,6 +156,43 @@ module _ (lead w : ℕ) (s : List ℕ) (station event : ℕ) where
   unfolding lookupOf lookedUp isRecorded
   lookupOf-found h a b d =
       rw (h, stations-read lead w s, count-read lead w s (station - 1) (omega arith), le-leb 1 station a, le-leb station (nAt lead s) b, le-leb event (mAt lead w s (station - 1)) d) refl
+
+  -- what the code compares with n and m, which the full cut has
+  module _ (v : Checked) (ev : v ≡ checkedOf lead w s) (av : v ≡ Checked.Accepted) (full : Cut) (ef : full ≡ fullOf lead w s) where
+    accepted : checkedOf lead w s ≡ Checked.Accepted
+    accepted = sym ev ∙ av
+
+    n-is : full .n ≡ nAt lead s
+    n-is = full-stations lead w s full ef
+
+    pub full-few : full .n ≤ 8
+    full-few = omega (arith, accepted-accepts lead w s accepted .n-most, n-is)
+
+    m-is : 1 ≤ station → station ≤ full .n → at (full .counts) (station - 1) ≡ mAt lead w s (station - 1)
+    m-is a b = count-full lead w s (full .counts) (full-counts lead w s full ef) (station - 1) (omega (arith, n-is)) (omega (arith, full-few))
+
+    abbrev flag : Bool
+    flag = leb 1 station && leb station (full .n) && leb event (at (full .counts) (station - 1))
+
+    module _ (r : Bool) (er : r ≡ flag) where
+      pub recorded-read : r ≡ true → (1 ≤ station) × (station - 1 < full .n) × (event ≤ mAt lead w s (station - 1))
+      recorded-read h =
+          let (b, e) = and-true (leb 1 station && leb station (full .n)) (leb event (at (full .counts) (station - 1))) (sym er ∙ h) in
+          let (a, d) = and-true (leb 1 station) (leb station (full .n)) b in
+          let one : 1 ≤ station = leb-true 1 station a in
+          let most : station ≤ full .n = leb-true station (full .n) d in
+          (one, omega arith, rw (m-is one most) at (leb-true event (at (full .counts) (station - 1)) e))
+
+      pub lookup-found : r ≡ true → foundOf (recordingOf lead w s) (station - 1) event ≡ lookupOf lead w s station event
+      lookup-found h = let (a, b, d) = recorded-read h in lookupOf-found accepted a (omega (arith, n-is)) d
+
+      pub lookup-none : r ≡ false → notFound (record { number = 15; station = 0; event = 0 }) ≡ lookupOf lead w s station event
+      lookup-none h =
+          lookupOf-none accepted (λ a b d.
+          let m : station ≤ full .n = omega (arith, n-is) in
+          let k : event ≤ at (full .counts) (station - 1) = omega (arith, m-is a m) in
+          let f : flag ≡ true = rw (le-leb 1 station a, le-leb station (full .n) m, le-leb event (at (full .counts) (station - 1)) k) refl in
+          true-not (sym f ∙ sym er ∙ h))
 
   -- two permitted replies are equal
   pub lookup-unique : (r r′ : Found) → r ≡ lookupOf lead w s station event → r′ ≡ lookupOf lead w s station event → r ≡ r′

@@ -1,6 +1,8 @@
 // The lookup of one record of a packed recording, after the recording's checks.
 ghost use mathlib.Core.Path.{_≡_};
-ghost use Prim.Native.Nat.{_+_, _≤_, _<_};
+ghost use mathlib.Core.Bool.{_&&_};
+ghost use Prim.Native.Nat.{_+_, _-_, _≤_, _<_};
+ghost use lib.Dec.{leb};
 ghost use Rattle.cuts.specs.Below.{sumTo, tab};
 ghost use Rattle.cuts.specs.Cut.{at};
 ghost use Rattle.recording.specs.Form.{stationBit, recordBit, nAt, mAt, recordingOf, lead8, width8};
@@ -33,17 +35,35 @@ pub fn lookup(s: &[u8], station: u8, event: u16) -> Found
     }
     let full = recording::full_cut(s);
     let m = full.counts;
+    if is_recorded(full.n, m, station, event) {
+        return found_at(
+            LEAD,
+            WIDTH,
+            s,
+            full.n as usize,
+            m,
+            (station - 1) as usize,
+            event as usize,
+        );
+    }
+    not_found(whole(15))
+}
+
+// Whether the station is 1 to n, and the event 0 to its m.
+fn is_recorded(n: u8, m: [u16; 8], station: u8, event: u16) -> bool
+    requires { ⌜ n ≤ 8 ⌝ }
+    ensures { λ r. ⌜ r ≡ (leb 1 station && leb station n && leb event (at m (station - 1))) ⌝ }
+{
     if station < 1 {
-        return not_found(whole(15));
+        return false;
     }
-    if full.n < station {
-        return not_found(whole(15));
+    if n < station {
+        return false;
     }
-    let p = (station - 1) as usize;
-    if m[p] < event {
-        return not_found(whole(15));
+    if m[(station - 1) as usize] < event {
+        return false;
     }
-    found_at(LEAD, WIDTH, s, full.n as usize, m, p, event as usize)
+    true
 }
 
 // The refusal, and zeros beside it.

@@ -3,7 +3,7 @@
 use mathlib.Core.Path.{_≡_, refl, sym, ap, _∙_}
 use mathlib.Core.Bool.{Bool, true, false, cond}
 use mathlib.Core.Logic.{⊎-elim}
-use mathlib.Core.List.{List, [], _∷_}
+use mathlib.Core.List.{List, [], _∷_, _++_}
 use Prim.Native.Nat.{ℕ, zero, suc, _+_, _-_, _≤_, _<_}
 use native.Mathlib.Nat.{le-antisymm, add-zero, add-suc, not-suc-le-zero}
 use native.Mathlib.Numerals.{add-one}
@@ -47,6 +47,22 @@ fault-next t ts e = rw e refl
 pub fault-here : (t : Test) (ts : List Test) → t .passes ≡ false → faultOf (t ∷ ts) ≡ t .number
 unfolding faultOf
 fault-here t ts e = rw e refl
+
+-- the tests of two lists, one after the other
+pub fault-front : (ts us : List Test) → (faultOf ts ≡ 0 → ⊥) → faultOf (ts ++ us) ≡ faultOf ts
+unfolding faultOf
+fault-front [] us h = absurd (h refl)
+fault-front (t ∷ ts) us h = go (t .passes) h (fault-front ts us)
+  where
+    go : (b : Bool) → (cond b (faultOf ts) (t .number) ≡ 0 → ⊥) → ((faultOf ts ≡ 0 → ⊥) → faultOf (ts ++ us) ≡ faultOf ts)
+        → cond b (faultOf (ts ++ us)) (t .number) ≡ cond b (faultOf ts) (t .number)
+    go true h ih = ih h
+    go false h ih = refl
+
+pub pass-rest : {ts : List Test} → Pass ts → (us : List Test) → faultOf (ts ++ us) ≡ faultOf us
+unfolding faultOf
+pass-rest no-test us = refl
+pass-rest (and-then e h) us = rw e (pass-rest h us)
 
 -- no number of a list's tests is above k
 pub no-fault : (k : ℕ) → faultOf [] ≤ k

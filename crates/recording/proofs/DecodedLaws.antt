@@ -1,51 +1,63 @@
 -- Each way out of `decode` is one law: the checks refuse; a room is too short; both tables are laid. Assumes nothing.
 use mathlib.Core.Path.{_≡_, refl, sym, ap, _∙_}
-use mathlib.Core.Bool.{false, _&&_}
+use mathlib.Core.Bool.{Bool, true, false, _&&_, not}
 use mathlib.Core.List.{List, _++_}
-use Prim.Native.Nat.{ℕ, _*_, _≤_, _<_}
-use native.Mathlib.Omega.{arith}
+use Prim.Native.Nat.{ℕ, _*_, _≤_}
+use lib.Dec.{leb}
 use lib.ListN.{length, take, drop}
+use borrow.Author.Tests.{leb-true, le-leb, not-true, not-false}
 use Rattle.cuts.specs.Below.{tab}
-use Rattle.cuts.proofs.BelowLaws.{and-false}
+use Rattle.cuts.proofs.BelowLaws.{and-true}
 use Rattle.recording.specs.Form.{nAt, firstAt}
 use Rattle.recording.specs.Check.{checkedOf}
 use Rattle.recording.specs.Decode.{stampCell, levelCell, stampsFit, stampsIn, levelsFit, levelsIn}
 use Rattle.recording.specs.Decoded.{CheckedRows, roomBy, Decodes}
+use Rattle.recording.specs.Fault.{refusalBy, checkedBy}
 use Rattle.recording.specs.declared.Refusal.{Refusal}
 use Rattle.recording.specs.declared.Checked.{Checked}
 use Rattle.recording.specs.declared.Decoded.{Decoded}
-use Rattle.recording.proofs.AcceptedRight.{accepted-accepts}
-use Rattle.recording.proofs.DecodeLaws.{stamps-none, stamps-some, levels-none, levels-some}
+use Rattle.recording.proofs.DecodeLaws.{stamps-some, levels-some}
+use Rattle.recording.proofs.FaultLaws.{checkedBy-0, checkedBy-refused}
 
--- an accepted recording has at most eight stations
-pub few-stations : (lead w : ℕ) (s rows : List ℕ) (v : Checked) → CheckedRows lead w s v rows → v ≡ Checked.Accepted → (n : ℕ) → n ≡ nAt lead s → n ≤ 8
-few-stations lead w s rows v h e n en = rw en (accepted-accepts lead w s (sym (h .reply) ∙ e) .n-most)
+-- neither room is too short
+pub fits-read : (short : Bool) (total x y : ℕ) → short ≡ not (leb (8 * total) x && leb total y) → short ≡ false → (8 * total ≤ x) × (total ≤ y)
+fits-read short total x y e h = let (a, b) = and-true (leb (8 * total) x) (leb total y) (not-false _ (sym e ∙ h)) in (leb-true _ _ a, leb-true _ _ b)
 
-module _ (lead w : ℕ) (s a b rows : List ℕ) (v : Checked) (h : CheckedRows lead w s v rows) where
-  pub decode-refused : (x : Refusal) → v ≡ Checked.Refused x → Decodes lead w s a b (Decoded.Refused x) a b
-  decode-refused x e = let r : checkedOf lead w s ≡ Checked.Refused x = sym (h .reply) ∙ e in record { answer = rw r refl; stamps-after = refl; levels-after = refl }
+module _ (lead w : ℕ) (s a b rows : List ℕ) (v : ℕ) (h : CheckedRows lead w s v rows) where
+  abbrev T : ℕ
+  T = firstAt lead w s (nAt lead s)
 
-  module _ (e : v ≡ Checked.Accepted) where
+  pub decode-refused : (v ≡ 0 → ⊥) → (x : Refusal) → x ≡ refusalBy v → Decodes lead w s a b (Decoded.Refused x) a b
+  decode-refused e x ex =
+      let r : checkedOf lead w s ≡ Checked.Refused x = sym (h .reply) ∙ checkedBy-refused v e ∙ ap Checked.Refused (sym ex) in
+      record { answer = rw r refl; stamps-after = refl; levels-after = refl }
+
+  module _ (e : v ≡ 0) (total : ℕ) (et : total ≡ T) where
     reply-is : checkedOf lead w s ≡ Checked.Accepted
-    reply-is = sym (h .reply) ∙ e
+    reply-is = sym (h .reply) ∙ ap checkedBy e ∙ checkedBy-0
 
-    short : (stampsFit lead w s (length a) && levelsFit lead w s (length b)) ≡ false → Decodes lead w s a b Decoded.Short a b
-    short z = record { answer = rw (reply-is, z) refl; stamps-after = refl; levels-after = refl }
+    abbrev fit : Bool
+    fit = leb (8 * total) (length a) && leb total (length b)
 
-    module _ (n total : ℕ) (en : n ≡ nAt lead s) (et : total ≡ firstAt lead w s n) where
-      pub decode-short-stamps : length a < 8 * total → Decodes lead w s a b Decoded.Short a b
-      decode-short-stamps l = short (rw (← (stamps-none lead w s n a en (λ i k. omega (arith, et)) .0)) refl)
+    fit-is : (stampsFit lead w s (length a) && levelsFit lead w s (length b)) ≡ fit
+    unfolding stampsFit levelsFit
+    fit-is = rw (le-leb (nAt lead s) 8 (h .laid e .n-most), et) refl
 
-      pub decode-short-levels : length b < total → Decodes lead w s a b Decoded.Short a b
-      decode-short-levels l = short (rw (← (levels-none lead w s n b en (λ i k. omega (arith, et)) .0)) (and-false (stampsFit lead w s (length a))))
+    module _ (short : Bool) (es : short ≡ not fit) where
+      pub decode-short : short ≡ true → Decodes lead w s a b Decoded.Short a b
+      decode-short z = record { answer = rw (reply-is, fit-is, not-true fit (sym es ∙ z)) refl; stamps-after = refl; levels-after = refl }
 
-      pub decode-done : (a′ b′ : List ℕ) → 8 * total ≤ length a → total ≤ length b → a′ ≡ take (8 * total) rows ++ drop (8 * total) a
-          → b′ ≡ tab total (levelCell lead w s n) ++ drop total b → Decodes lead w s a b Decoded.Done a′ b′
-      decode-done a′ b′ la lb ea eb =
-          let t : take (8 * total) rows ≡ tab (8 * total) (stampCell lead w s n) = rw (et, en) (h .table e) in
-          let (f, x) = stamps-some lead w s n a en total et (few-stations lead w s rows v h e n en) la a′ (ea ∙ ap (λ (l : List ℕ). l ++ drop (8 * total) a) t) in
-          let (g, y) = levels-some lead w s n b en total et (few-stations lead w s rows v h e n en) lb b′ eb in
-          record { answer = rw (reply-is, ← f, ← g) refl; stamps-after = x; levels-after = y }
+      pub decode-done : short ≡ false → (a′ b′ : List ℕ) → a′ ≡ take (8 * total) rows ++ drop (8 * total) a
+          → b′ ≡ tab total (levelCell lead w s (nAt lead s)) ++ drop total b → Decodes lead w s a b Decoded.Done a′ b′
+      decode-done z a′ b′ ea eb =
+          let (la, lb) = fits-read short total (length a) (length b) es z in
+          let r = h .laid e in
+          let t : take (8 * total) rows ≡ tab (8 * total) (stampCell lead w s (nAt lead s)) = rw et (r .table) in
+          record {
+            answer = rw (reply-is, fit-is, not-false fit (sym es ∙ z)) refl;
+            stamps-after = stamps-some lead w s (nAt lead s) a refl total et (r .n-most) la a′ (ea ∙ ap (λ (l : List ℕ). l ++ drop (8 * total) a) t) .1;
+            levels-after = levels-some lead w s (nAt lead s) b refl total et (r .n-most) lb b′ eb .1;
+          }
 
 -- two permitted replies, with their rooms, are equal
 pub decode-unique : (lead w : ℕ) (s a b : List ℕ) (r r′ : Decoded) (a₁ b₁ a₂ b₂ : List ℕ) → Decodes lead w s a b r a₁ b₁ → Decodes lead w s a b r′ a₂ b₂ → (r ≡ r′) × (a₁ ≡ a₂) × (b₁ ≡ b₂)

@@ -6,10 +6,11 @@ use Prim.Native.Nat.{ℕ, _+_, _-_, _*_, _≤_, _<_, min}
 use native.Mathlib.Omega.{arith}
 use lib.ListN.{length, length-take}
 use lib.Seq.{getD-take}
+use Rattle.bits.specs.Bits.{field}
 use Rattle.cuts.specs.Cut.{at}
 use Rattle.cuts.proofs.BelowLaws.{length-tab, getD-tab}
 use Rattle.recording.specs.Recording.{Recording, countsOf}
-use Rattle.recording.specs.Form.{mAt, firstAt, originAt, numberAt, recordingOf}
+use Rattle.recording.specs.Form.{recordBit, nAt, mAt, firstAt, originAt, numberAt, recordingOf}
 use Rattle.recording.specs.Decode.{recordsTo, stampCell, Laid}
 use Rattle.faults.specs.Fault.{tableFault}
 use Rattle.recording.specs.Fault.{faultAt}
@@ -73,10 +74,14 @@ module _ {lead w n : ℕ} {s m firsts rows : List ℕ} (laid : Laid lead w s n m
   pub record-small : (p e : ℕ) → w ≤ 9 → p < n → e < mAt lead w s p → at firsts p + e < 4096
   record-small p e hw hp he = omega (arith, first-laid p (omega arith), firstAt-lt lead w s p e n hp he, firstAt-le lead w s n hw)
 
-  -- a record's fault, by its origin and number
-  pub record-right : (p e : ℕ) → p < n → e < mAt lead w s p → (o k : ℕ) → o ≡ originAt lead w s n (at firsts p + e) → k ≡ numberAt lead w s n (at firsts p + e)
-      → tableFault n m firsts rows o k p e ≡ faultAt R p e
-  record-right p e hp he o k eo ek =
-      table-right laid-tables p e hp (omega (arith, m-laid p hp)) o k
-      (origin-read lead w s p e (omega arith) he ∙ sym (rw (first-laid p (omega arith), laid .n-is) at eo))
-      (number-read lead w s p e (omega arith) he ∙ sym (rw (first-laid p (omega arith), laid .n-is) at ek))
+  -- a record's fault, by the origin and number that stand where it begins
+  pub record-right : (p e count : ℕ) → p < n → count ≡ at m p → e < count → (b o k f : ℕ) → b ≡ recordBit lead w n (at firsts p + e) → o ≡ field s b 4 → k ≡ field s (b + 4) w
+      → f ≡ tableFault n m firsts rows o k p e → f ≡ faultAt R p e
+  unfolding originAt numberAt
+  record-right p e count hp ec hc b o k f eb eo ek ef =
+      let x : b ≡ recordBit lead w (nAt lead s) (firstAt lead w s p + e) = rw (← (first-laid p (omega arith)), ← (laid .n-is)) eb in
+      let he : e < mAt lead w s p = omega (arith, m-laid p hp) in
+      ef
+      ∙ table-right laid-tables p e hp (omega arith) o k
+      (origin-read lead w s p e (omega arith) he ∙ sym (rw x at eo))
+      (number-read lead w s p e (omega arith) he ∙ sym (rw x at ek))

@@ -2,19 +2,25 @@
 use mathlib.Core.Path.{_≡_}
 use mathlib.Core.Bool.{Bool, true, false, _&&_}
 use mathlib.Core.List.{List}
-use Prim.Native.Nat.{ℕ, _*_}
+use Prim.Native.Nat.{ℕ, _*_, _≤_}
 use lib.ListN.{length, take}
 use Rattle.cuts.specs.Below.{tab}
 use Rattle.recording.specs.Form.{nAt, firstAt}
 use Rattle.recording.specs.Check.{checkedOf}
 use Rattle.recording.specs.Decode.{stampCell, stampsFit, stampsIn, levelsFit, levelsIn}
+use Rattle.recording.specs.Fault.{checkedBy}
 use Rattle.recording.specs.declared.Checked.{Checked}
 use Rattle.recording.specs.declared.Decoded.{Decoded}
 
--- the reply of the checks, and where they accept the table of stamps in front of the rows
-pub record CheckedRows (lead w : ℕ) (s : List ℕ) (r : Checked) (rows : List ℕ) : Type 0 where
-  pub reply : r ≡ checkedOf lead w s
-  pub table : r ≡ Checked.Accepted → take (8 * firstAt lead w s (nAt lead s)) rows ≡ tab (8 * firstAt lead w s (nAt lead s)) (stampCell lead w s (nAt lead s))
+-- a recording of at most eight stations, with its table of stamps in front of the rows
+pub record RowsLaid (lead w : ℕ) (s rows : List ℕ) : Type 0 where
+  pub n-most : nAt lead s ≤ 8
+  pub table : take (8 * firstAt lead w s (nAt lead s)) rows ≡ tab (8 * firstAt lead w s (nAt lead s)) (stampCell lead w s (nAt lead s))
+
+-- the reply of the checks as one number, and where they accept the table of stamps
+pub record CheckedRows (lead w : ℕ) (s : List ℕ) (v : ℕ) (rows : List ℕ) : Type 0 where
+  pub reply : checkedBy v ≡ checkedOf lead w s
+  pub laid : v ≡ 0 → RowsLaid lead w s rows
 
 -- the refusal of the checks; else whether the rooms have the tables
 abbrev pub decodedBy : Checked → Bool → Decoded

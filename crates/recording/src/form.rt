@@ -5,8 +5,9 @@ ghost use Prim.Native.Nat.{_+_, _*_, _≤_, _<_};
 ghost use lib.ListN.{length, take, drop};
 ghost use Rattle.cuts.specs.Below.{tab};
 ghost use Rattle.bits.specs.Bits.{field};
-ghost use Rattle.recording.specs.Form.{stationBit, recordBit, bytesFor, nAt, mAt, firstAt, originAt, numberAt, levelAt, countAt};
-ghost use Rattle.recording.specs.Decode.{eventsAt, recordsTo, startCell, stampCell, levelCell};
+ghost use Rattle.recording.specs.Form.{stationBit, recordBit, bytesFor, nAt, firstAt};
+ghost use Rattle.recording.specs.Decode.{eventsAt, recordsTo, startCell, levelCell, stampCell};
+ghost use Rattle.recording.specs.Decoded.{RowsLaid};
 
 // The bit where the part of the station at place p begins.
 pub fn station_bit(lead: usize, w: usize, p: usize) -> usize
@@ -40,21 +41,13 @@ pub fn stations(lead: usize, s: &[u8]) -> usize
     wide(bits::peek(s, lead - 4, 4))
 }
 
-// m of the station at place p.
-pub fn events(lead: usize, w: usize, s: &[u8], p: usize) -> u16
-    requires { ⌜ (lead ≤ 8) × (w ≤ 9) × (p ≤ 15) ⌝ }
-    ensures { λ r. ⌜ (r ≡ mAt lead w (now (s .entry)) p) × (r < 512) ⌝ }
-{
-    bits::peek(s, station_bit(lead, w, p), w)
-}
-
 // m of the station at place p, 0 beyond n.
-pub fn events_within(lead: usize, w: usize, s: &[u8], n: usize, p: usize) -> u16
+pub fn events(lead: usize, w: usize, s: &[u8], n: usize, p: usize) -> u16
     requires { ⌜ (lead ≤ 8) × (w ≤ 9) × (p ≤ 15) ⌝ }
     ensures { λ r. ⌜ (r ≡ eventsAt lead w (now (s .entry)) n p) × (r < 512) ⌝ }
 {
     if p < n {
-        return events(lead, w, s, p);
+        return bits::peek(s, station_bit(lead, w, p), w);
     }
     0
 }
@@ -67,7 +60,7 @@ pub fn counts(lead: usize, w: usize, s: &[u8], n: usize) -> [u16; 8]
     let mut m = [0u16; 8];
     let mut p: usize = 0;
     while p < 8 {
-        m[p] = events_within(lead, w, s, n, p);
+        m[p] = events(lead, w, s, n, p);
         p += 1;
     }
     m
@@ -83,24 +76,19 @@ pub fn firsts(lead: usize, w: usize, s: &[u8], n: usize) -> [usize; 9]
     let mut p: usize = 0;
     while p < 9 {
         f[p] = before;
-        before += wide(events_within(lead, w, s, n, p));
+        before += wide(events(lead, w, s, n, p));
         p += 1;
     }
     f
 }
 
-// T.
-pub fn total(lead: usize, w: usize, s: &[u8], n: usize) -> usize
-    requires { ⌜ (lead ≤ 8) × (w ≤ 9) × (n ≤ 8) ⌝ }
-    ensures { λ r. ⌜ (r ≡ firstAt lead w (now (s .entry)) n) × (r ≤ 4088) ⌝ }
+// T, for at most eight stations.
+pub fn total(lead: usize, w: usize, s: &[u8]) -> usize
+    requires { ⌜ (4 ≤ lead) × (lead ≤ 8) × (w ≤ 9) × (nAt lead (now s) ≤ 8) ⌝ }
+    ensures { λ r. ⌜ (r ≡ firstAt lead w (now (s .entry)) (nAt lead (now (s .entry)))) × (r ≤ 4088) ⌝ }
 {
-    let mut t: usize = 0;
-    let mut p: usize = 0;
-    while p < n {
-        t += wide(events(lead, w, s, p));
-        p += 1;
-    }
-    t
+    let f = firsts(lead, w, s, stations(lead, s));
+    f[8]
 }
 
 // The excess number of the start level of the station at place p, 0 beyond n.
@@ -109,17 +97,9 @@ pub fn start(lead: usize, w: usize, s: &[u8], n: usize, p: usize) -> u16
     ensures { λ r. ⌜ r ≡ startCell lead w (now (s .entry)) n p ⌝ }
 {
     if p < n {
-        return levels::excess(start_bits(lead, w, s, p));
+        return levels::excess(bits::peek(s, station_bit(lead, w, p) + w, 12));
     }
     0
-}
-
-// The 12 bits of the start level of the station at place p.
-pub fn start_bits(lead: usize, w: usize, s: &[u8], p: usize) -> u16
-    requires { ⌜ (lead ≤ 8) × (w ≤ 9) × (p ≤ 15) ⌝ }
-    ensures { λ r. ⌜ (r ≡ field (now (s .entry)) (stationBit lead w p + w) 12) × (r < 4096) ⌝ }
-{
-    bits::peek(s, station_bit(lead, w, p) + w, 12)
 }
 
 // The excess number of each station's start level, 0 beyond n.
@@ -136,36 +116,28 @@ pub fn starts(lead: usize, w: usize, s: &[u8], n: usize) -> [u16; 8]
     l
 }
 
-// The origin of record r.
-pub fn origin(lead: usize, w: usize, s: &[u8], n: usize, r: usize) -> u8
-    requires { ⌜ (lead ≤ 8) × (w ≤ 9) × (n ≤ 8) × (r ≤ 4096) ⌝ }
-    ensures { λ o. ⌜ (o ≡ originAt lead w (now (s .entry)) n r) × (o < 16) ⌝ }
+// The origin of the record that begins at the bit b.
+pub fn origin(s: &[u8], b: usize) -> u8
+    requires { ⌜ b ≤ 400000 ⌝ }
+    ensures { λ o. ⌜ (o ≡ field (now (s .entry)) b 4) × (o < 16) ⌝ }
 {
-    (bits::peek(s, record_bit(lead, w, n, r), 4) % 16) as u8
+    (bits::peek(s, b, 4) % 16) as u8
 }
 
-// The sender's number of record r.
-pub fn number(lead: usize, w: usize, s: &[u8], n: usize, r: usize) -> u16
-    requires { ⌜ (lead ≤ 8) × (w ≤ 9) × (n ≤ 8) × (r ≤ 4096) ⌝ }
-    ensures { λ k. ⌜ (k ≡ numberAt lead w (now (s .entry)) n r) × (k < 512) ⌝ }
+// Its sender's number.
+pub fn number(w: usize, s: &[u8], b: usize) -> usize
+    requires { ⌜ (w ≤ 9) × (b ≤ 400000) ⌝ }
+    ensures { λ k. ⌜ k ≡ field (now (s .entry)) (b + 4) w ⌝ }
 {
-    bits::peek(s, record_bit(lead, w, n, r) + 4, w)
+    wide(bits::peek(s, b + 4, w))
 }
 
-// The 12 bits of the level of record r.
-pub fn level(lead: usize, w: usize, s: &[u8], n: usize, r: usize) -> u16
+// Number r of the table of levels.
+pub fn level_cell(lead: usize, w: usize, s: &[u8], n: usize, r: usize) -> u16
     requires { ⌜ (lead ≤ 8) × (w ≤ 9) × (n ≤ 8) × (r ≤ 4096) ⌝ }
-    ensures { λ l. ⌜ (l ≡ levelAt lead w (now (s .entry)) n r) × (l < 4096) ⌝ }
+    ensures { λ l. ⌜ l ≡ levelCell lead w (now (s .entry)) n r ⌝ }
 {
-    bits::peek(s, record_bit(lead, w, n, r) + 4 + w, 12)
-}
-
-// Count q of the stamp of record r.
-pub fn count(lead: usize, w: usize, s: &[u8], n: usize, r: usize, q: usize) -> u16
-    requires { ⌜ (lead ≤ 8) × (w ≤ 9) × (n ≤ 8) × (r ≤ 4096) × (q ≤ 8) ⌝ }
-    ensures { λ c. ⌜ (c ≡ countAt lead w (now (s .entry)) n r q) × (c < 512) ⌝ }
-{
-    bits::peek(s, record_bit(lead, w, n, r) + 16 + w + w * q, w)
+    levels::excess(bits::peek(s, record_bit(lead, w, n, r) + 4 + w, 12))
 }
 
 // Number j of the table of stamps.
@@ -175,17 +147,18 @@ pub fn stamp_cell(lead: usize, w: usize, s: &[u8], n: usize, j: usize) -> u16
 {
     let q = j % 8;
     if q < n {
-        return count(lead, w, s, n, j / 8, q);
+        return bits::peek(s, record_bit(lead, w, n, j / 8) + 16 + w + w * q, w);
     }
     0
 }
 
 // The table of stamps into the front of `out`.
-pub fn lay_stamps(lead: usize, w: usize, s: &[u8], n: usize, total: usize, out: &mut [u16])
-    requires { ⌜ (lead ≤ 8) × (w ≤ 9) × (n ≤ 8) × (total ≤ 4088) × (8 * total ≤ length (now out)) ⌝ }
-    ensures { λ _. ⌜ now (out .exit) ≡ tab (8 * total) (stampCell lead w (now (s .entry)) n) ++ drop (8 * total) (now (out .entry)) ⌝ }
+pub fn lay_stamps(lead: usize, w: usize, s: &[u8], out: &mut [u16])
+    requires { ⌜ (4 ≤ lead) × (lead ≤ 8) × (w ≤ 9) × (nAt lead (now s) ≤ 8) × (length (now out) ≡ 32704) ⌝ }
+    ensures { λ _. ⌜ RowsLaid lead w (now (s .entry)) (now (out .exit)) ⌝ }
 {
-    let end = 8 * total;
+    let n = stations(lead, s);
+    let end = 8 * total(lead, w, s);
     let mut j: usize = 0;
     while j < end {
         out[j] = stamp_cell(lead, w, s, n, j);
@@ -194,13 +167,14 @@ pub fn lay_stamps(lead: usize, w: usize, s: &[u8], n: usize, total: usize, out: 
 }
 
 // The table of levels into the front of `out`.
-pub fn lay_levels(lead: usize, w: usize, s: &[u8], n: usize, total: usize, out: &mut [u16])
-    requires { ⌜ (lead ≤ 8) × (w ≤ 9) × (n ≤ 8) × (total ≤ 4088) × (total ≤ length (now out)) ⌝ }
-    ensures { λ _. ⌜ now (out .exit) ≡ tab total (levelCell lead w (now (s .entry)) n) ++ drop total (now (out .entry)) ⌝ }
+pub fn lay_levels(lead: usize, w: usize, s: &[u8], total: usize, out: &mut [u16])
+    requires { ⌜ (4 ≤ lead) × (lead ≤ 8) × (w ≤ 9) × (nAt lead (now s) ≤ 8) × (total ≤ 4088) × (total ≤ length (now out)) ⌝ }
+    ensures { λ _. ⌜ now (out .exit) ≡ tab total (levelCell lead w (now (s .entry)) (nAt lead (now (s .entry)))) ++ drop total (now (out .entry)) ⌝ }
 {
+    let n = stations(lead, s);
     let mut r: usize = 0;
     while r < total {
-        out[r] = levels::excess(level(lead, w, s, n, r));
+        out[r] = level_cell(lead, w, s, n, r);
         r += 1;
     }
 }

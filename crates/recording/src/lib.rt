@@ -1,5 +1,8 @@
 // The packed recording of document 01: checked, laid out flat.
 ghost use mathlib.Core.Path.{_≡_};
+ghost use mathlib.Core.Bool.{_&&_, not};
+ghost use Prim.Native.Nat.{_*_, _≤_};
+ghost use lib.Dec.{leb};
 ghost use Rattle.recording.specs.Form.{lead8, width8};
 ghost use Rattle.recording.specs.Check.{checkedOf};
 ghost use Rattle.recording.specs.Decoded.{Decodes};
@@ -40,7 +43,11 @@ pub fn check(s: &[u8]) -> Checked
     ensures { λ r. ⌜ r ≡ checkedOf lead8 width8 (now (s .entry)) ⌝ }
 {
     let mut rows = [0u16; 32704];
-    records::check_rows(LEAD, WIDTH, s, &mut rows)
+    let v = records::check_rows(LEAD, WIDTH, s, &mut rows);
+    if v != 0 {
+        return Checked::Refused(records::refusal(v));
+    }
+    Checked::Accepted
 }
 
 // The checks and, where they accept, the tables of stamps and levels into the fronts of the rooms.
@@ -49,20 +56,30 @@ pub fn decode(s: &[u8], stamps: &mut [u16], levels: &mut [u16]) -> Decoded
 {
     let mut rows = [0u16; 32704];
     let v = records::check_rows(LEAD, WIDTH, s, &mut rows);
-    if let Checked::Refused(x) = v {
-        return Decoded::Refused(x);
+    if v != 0 {
+        return Decoded::Refused(records::refusal(v));
     }
-    let n = form::stations(LEAD, s);
-    let total = form::total(LEAD, WIDTH, s, n);
-    if stamps.len() < 8 * total {
-        return Decoded::Short;
-    }
-    if levels.len() < total {
+    let total = form::total(LEAD, WIDTH, s);
+    if short(total, stamps.len(), levels.len()) {
         return Decoded::Short;
     }
     form::copy(&rows, 8 * total, stamps);
-    form::lay_levels(LEAD, WIDTH, s, n, total, levels);
+    form::lay_levels(LEAD, WIDTH, s, total, levels);
     Decoded::Done
+}
+
+// Whether one of two rooms is too short for its table of so many records.
+fn short(total: usize, stamps: usize, levels: usize) -> bool
+    requires { ⌜ total ≤ 4088 ⌝ }
+    ensures { λ r. ⌜ r ≡ not (leb (8 * total) stamps && leb total levels) ⌝ }
+{
+    if stamps < 8 * total {
+        return true;
+    }
+    if levels < total {
+        return true;
+    }
+    false
 }
 
 // The n and m that the bytes name, as the full cut.

@@ -1,87 +1,95 @@
-// The checks of a recording.
+// The checks of a recording. A refusal goes through them as one number: 4,096 times the station, 8 times the event, and its own number; 0 is none.
 ghost use mathlib.Core.Path.{_≡_};
-ghost use Prim.Native.Nat.{_≤_, _<_};
+ghost use Prim.Native.Nat.{_+_, _*_, _≤_, _<_};
 ghost use lib.ListN.{length};
-ghost use Rattle.recording.specs.Form.{mAt, recordingOf};
+ghost use Rattle.recording.specs.Form.{nAt, recordingOf};
 ghost use Rattle.recording.specs.Check.{checkedRecords};
 ghost use Rattle.recording.specs.Decode.{Laid};
-ghost use Rattle.recording.specs.Decoded.{CheckedRows};
-ghost use Rattle.recording.specs.Fault.{formFault, faultAt, checkedStation};
-use crate::Checked;
+ghost use Rattle.recording.specs.Decoded.{RowsLaid, CheckedRows};
+ghost use Rattle.recording.specs.Fault.{formFault, headFault, endFault, checkedStation, refusalBy, checkedBy};
 use crate::Refusal;
 use crate::form;
 
 // The checks in the written order, with a room for the table of stamps, which stands in front of it where the recording is accepted.
-pub fn check_rows(lead: usize, w: usize, s: &[u8], rows: &mut [u16]) -> Checked
+pub fn check_rows(lead: usize, w: usize, s: &[u8], rows: &mut [u16]) -> u16
     requires { ⌜ (4 ≤ lead) × (lead ≤ 8) × (1 ≤ w) × (w ≤ 9) × (length (now rows) ≡ 32704) ⌝ }
     ensures { λ r. ⌜ CheckedRows lead w (now (s .entry)) r (now (rows .exit)) ⌝ }
 {
     let k = form_fault(lead, w, s);
     if k != 0 {
-        return Checked::Refused(whole(k));
+        return k;
     }
-    let n = form::stations(lead, s);
-    let m = form::counts(lead, w, s, n);
-    let firsts = form::firsts(lead, w, s, n);
-    let total = firsts[8];
-    form::lay_stamps(lead, w, s, n, total, rows);
-    scan_stations(lead, w, s, n, m, firsts, rows)
+    form::lay_stamps(lead, w, s, rows);
+    scan_stations(lead, w, s, rows)
 }
 
 // The number of the first test of the whole that fails, 0 if none does.
-pub fn form_fault(lead: usize, w: usize, s: &[u8]) -> u8
+pub fn form_fault(lead: usize, w: usize, s: &[u8]) -> u16
     requires { ⌜ (4 ≤ lead) × (lead ≤ 8) × (1 ≤ w) × (w ≤ 9) ⌝ }
     ensures { λ r. ⌜ r ≡ formFault lead w (now (s .entry)) ⌝ }
 {
-    if s.len() < 1 {
+    let n = form::stations(lead, s);
+    let k = head_fault(s.len(), n, form::bytes_for(form::station_bit(lead, w, n)));
+    if k != 0 {
+        return k;
+    }
+    end_fault(s, form::record_bit(lead, w, n, form::total(lead, w, s)))
+}
+
+// The same of the tests of a recording of len bytes and n stations, whose parts end in the byte `head`.
+pub fn head_fault(len: usize, n: usize, head: usize) -> u16
+    ensures { λ r. ⌜ r ≡ headFault len n head ⌝ }
+{
+    if len < 1 {
         return 1;
     }
-    let n = form::stations(lead, s);
     if n < 1 {
         return 2;
     }
     if 8 < n {
         return 2;
     }
-    if s.len() < form::bytes_for(form::station_bit(lead, w, n)) {
+    if len < head {
         return 1;
     }
-    let end = form::record_bit(lead, w, n, form::total(lead, w, s, n));
-    let needed = form::bytes_for(end);
+    0
+}
+
+// The same of the tests of a recording that ends at the bit b.
+pub fn end_fault(s: &[u8], b: usize) -> u16
+    requires { ⌜ b ≤ 400000 ⌝ }
+    ensures { λ r. ⌜ r ≡ endFault (now (s .entry)) b ⌝ }
+{
+    let needed = form::bytes_for(b);
     if s.len() < needed {
         return 1;
     }
     if needed < s.len() {
         return 3;
     }
-    if bits::peek(s, end, 8 * needed - end) != 0 {
+    if bits::peek(s, b, 8 * needed - b) != 0 {
         return 4;
     }
     0
 }
 
 // The first refusal among the records, station by station.
-pub fn scan_stations(
-    lead: usize,
-    w: usize,
-    s: &[u8],
-    n: usize,
-    m: [u16; 8],
-    firsts: [usize; 9],
-    rows: &[u16],
-) -> Checked
-    requires { ⌜ (lead ≤ 8) × (1 ≤ w) × (w ≤ 9) × Laid lead w (now s) n m firsts (now rows) ⌝ }
-    ensures { λ r. ⌜ r ≡ checkedRecords (recordingOf lead w (now (s .entry))) ⌝ }
+pub fn scan_stations(lead: usize, w: usize, s: &[u8], rows: &[u16]) -> u16
+    requires { ⌜ (4 ≤ lead) × (lead ≤ 8) × (1 ≤ w) × (w ≤ 9) × (1 ≤ nAt lead (now s)) × RowsLaid lead w (now s) (now rows) ⌝ }
+    ensures { λ r. ⌜ checkedBy r ≡ checkedRecords (recordingOf lead w (now (s .entry))) ⌝ }
 {
+    let n = form::stations(lead, s);
+    let m = form::counts(lead, w, s, n);
+    let firsts = form::firsts(lead, w, s, n);
     let mut p: usize = 0;
     while p < n {
         let v = scan_events(lead, w, s, n, m, firsts, rows, p);
-        if let Checked::Refused(x) = v {
-            return Checked::Refused(x);
+        if v != 0 {
+            return v;
         }
         p += 1;
     }
-    Checked::Accepted
+    0
 }
 
 // The first refusal among the records of the station at place p.
@@ -94,54 +102,39 @@ pub fn scan_events(
     firsts: [usize; 9],
     rows: &[u16],
     p: usize,
-) -> Checked
+) -> u16
     requires { ⌜ (lead ≤ 8) × (1 ≤ w) × (w ≤ 9) × Laid lead w (now s) n m firsts (now rows) × (p < n) ⌝ }
-    ensures { λ r. ⌜ r ≡ checkedStation (recordingOf lead w (now (s .entry))) p ⌝ }
+    ensures { λ r. ⌜ checkedBy r ≡ checkedStation (recordingOf lead w (now (s .entry))) p ⌝ }
 {
     let count = form::wide(m[p]);
     let mut e: usize = 0;
     while e < count {
-        let k = record_fault(lead, w, s, n, m, firsts, rows, p, e);
+        let b = form::record_bit(lead, w, n, firsts[p] + e);
+        let o = form::origin(s, b);
+        let k = faults::message_fault(n, m, firsts, rows, o, form::number(w, s, b), p, e);
         if k != 0 {
-            return Checked::Refused(Refusal {
-                number: k,
-                station: (p + 1) as u8,
-                event: (e + 1) as u16,
-            });
+            return of_record(k, p, e);
         }
         e += 1;
     }
-    Checked::Accepted
+    0
 }
 
-// The number of the first test of event e + 1 of the station at place p that fails, 0 if none does.
-pub fn record_fault(
-    lead: usize,
-    w: usize,
-    s: &[u8],
-    n: usize,
-    m: [u16; 8],
-    firsts: [usize; 9],
-    rows: &[u16],
-    p: usize,
-    e: usize,
-) -> u8
-    requires { ⌜ (lead ≤ 8) × (1 ≤ w) × (w ≤ 9) × Laid lead w (now s) n m firsts (now rows) × (p < n) × (e < mAt lead w (now s) p) ⌝ }
-    ensures { λ r. ⌜ r ≡ faultAt (recordingOf lead w (now (s .entry))) p e ⌝ }
+// A refusal that is about event e + 1 of the station at place p.
+pub fn of_record(number: u8, p: usize, e: usize) -> u16
+    requires { ⌜ (number < 8) × (p < 8) × (e < 511) ⌝ }
+    ensures { λ r. ⌜ r ≡ 4096 * (p + 1) + 8 * (e + 1) + number ⌝ }
 {
-    let r = firsts[p] + e;
-    let o = form::origin(lead, w, s, n, r);
-    let k = form::wide(form::number(lead, w, s, n, r));
-    faults::message_fault(n, m, firsts, rows, o, k, p, e)
+    (4096 * (p + 1) + 8 * (e + 1) + number as usize) as u16
 }
 
-// A refusal that is about no record.
-pub fn whole(number: u8) -> Refusal
-    ensures { λ r. ⌜ r ≡ record { number = number; station = 0; event = 0 } ⌝ }
+// The refusal that a number stands for.
+pub fn refusal(v: u16) -> Refusal
+    ensures { λ r. ⌜ r ≡ refusalBy v ⌝ }
 {
     Refusal {
-        number: number,
-        station: 0,
-        event: 0,
+        number: (v % 8) as u8,
+        station: (v / 4096) as u8,
+        event: v / 8 % 512,
     }
 }

@@ -1,6 +1,6 @@
 -- The checks come first; where they accept, the table of stamps that they laid is copied and that of the levels laid, if both rooms have them.
 use native.Mathlib.Omega.{arith}
-use Rattle.recording.proofs.DecodedLaws.{decode-refused, few-stations, decode-short-stamps, decode-short-levels, decode-done}
+use Rattle.recording.proofs.DecodedLaws.{decode-refused, decode-short, decode-done, fits-read}
 use borrow.Author.Needs.{needs}
 use Rattle.recording.proofs.decode.Statement.{statement}
 use Rattle.recording.proofs.decode.Tie as tie
@@ -11,35 +11,24 @@ slice-aggregate-check-rows c = search needs
 check-rows-requires : tie.Need-check-rows-requires
 check-rows-requires c κs = search needs
 
-enum-known-v : tie.Need-enum-known-v
-enum-known-v c = search needs
+refusal-requires : tie.Need-refusal-requires
+refusal-requires c κs = search needs
 
 returns : tie.Need-returns
-returns c = let R = c .before .before .before .before .check-rows in decode-refused _ _ _ _ _ _ _ (R .ensures) _ (c .before .v .given .1)
-
-enum-told : tie.Need-enum-told
-enum-told c = search needs
-
-stations-requires : tie.Need-stations-requires
-stations-requires c κs = search needs
+returns c = decode-refused _ _ _ _ _ _ _ (c .before .before .before .check-rows .ensures) (c .before .if1 .taken) _ (c .refusal .ensures)
 
 total-requires : tie.Need-total-requires
-total-requires c κs = let R = c .before .before .before .before .check-rows in (omega arith, omega arith, few-stations _ _ _ _ _ (R .ensures) (c .before .enum-told .given .1) _ (c .stations .ensures .0))
+total-requires c κs = (omega arith, omega arith, omega arith, c .before .before .check-rows .ensures .laid (c .if1 .left) .n-most)
 
-mul-if1 : tie.Need-mul-if1
-mul-if1 c = search needs
+short-requires : tie.Need-short-requires
+short-requires c κs = search needs
 
 returns-2 : tie.Need-returns-2
 returns-2 c =
-    let T = c .before in
-    let R = T .before .before .before .before .before .check-rows in
-    decode-short-stamps _ _ _ _ _ _ _ (R .ensures) (T .before .before .enum-told .given .1) _ _ (T .before .stations .ensures .0) (T .total .ensures .0) (c .if1 .taken)
-
-returns-3 : tie.Need-returns-3
-returns-3 c =
-    let T = c .before .before in
-    let R = T .before .before .before .before .before .check-rows in
-    decode-short-levels _ _ _ _ _ _ _ (R .ensures) (T .before .before .enum-told .given .1) _ _ (T .before .stations .ensures .0) (T .total .ensures .0) (c .if2 .taken)
+    let s = c .before in
+    let T = s .before in
+    let E = T .before in
+    decode-short _ _ _ _ _ _ _ (E .before .before .check-rows .ensures) (E .if1 .left) _ (T .total .ensures .0) _ (s .short .ensures) (c .if2 .taken)
 
 slice-aggregate-copy : tie.Need-slice-aggregate-copy
 slice-aggregate-copy c = search needs
@@ -48,13 +37,14 @@ mul-copy : tie.Need-mul-copy
 mul-copy c = search needs
 
 copy-requires : tie.Need-copy-requires
-copy-requires c κs = search needs
+copy-requires c κs = (omega arith, fits-read _ _ _ _ (c .before .before .before .short .ensures) (c .before .before .if2 .left) .0)
 
 lay-levels-requires : tie.Need-lay-levels-requires
 lay-levels-requires c κs =
-    let T = c .before .before .before .before .before .before .before .before in
-    let R = T .before .before .before .before .before .check-rows in
-    (omega arith, omega arith, few-stations _ _ _ _ _ (R .ensures) (T .before .before .enum-told .given .1) _ (T .before .stations .ensures .0), T .total .ensures .1, c .before .before .before .before .before .before .if2 .left)
+    let e = c .before .before .before .before .before .before in
+    let T = e .before .before in
+    let E = T .before in
+    (omega arith, omega arith, omega arith, E .before .before .check-rows .ensures .laid (E .if1 .left) .n-most, T .total .ensures .1, fits-read _ _ _ _ (e .before .short .ensures) (e .if2 .left) .1)
 
 same-length : tie.Need-same-length
 same-length c = search needs
@@ -62,13 +52,12 @@ same-length c = search needs
 same-length-2 : tie.Need-same-length-2
 same-length-2 c = search needs
 
-returns-4 : tie.Need-returns-4
-returns-4 c =
-    let T = c .before .before .before .before .before .before .before .before .before .before .before in
-    let R = T .before .before .before .before .before .check-rows in
-    decode-done _ _ _ _ _ _ _ (R .ensures) (T .before .before .enum-told .given .1) _ _ (T .before .stations .ensures .0) (T .total .ensures .0) _ _
-    (c .before .before .before .before .before .before .before .before .before .before .if1 .left) (c .before .before .before .before .before .before .before .before .before .if2 .left)
-    (c .before .before .before .before .before .before .copy .ensures) (c .before .before .lay-levels .ensures)
+returns-3 : tie.Need-returns-3
+returns-3 c =
+    let s = c .before .before .before .before .before .before .before .before .before .before in
+    let T = s .before in
+    let E = T .before in
+    decode-done _ _ _ _ _ _ _ (E .before .before .check-rows .ensures) (E .if1 .left) _ (T .total .ensures .0) _ (s .short .ensures) (c .before .before .before .before .before .before .before .before .before .if2 .left) _ _ (c .before .before .before .before .before .before .copy .ensures) (c .before .before .lay-levels .ensures)
 
 pub decode-spec : {M : Type 1} → statement M
 decode-spec =
@@ -76,18 +65,15 @@ decode-spec =
     (tie.spec
     slice-aggregate-check-rows
     check-rows-requires
-    enum-known-v
+    refusal-requires
     returns
-    enum-told
-    stations-requires
     total-requires
-    mul-if1
+    short-requires
     returns-2
-    returns-3
     slice-aggregate-copy
     mul-copy
     copy-requires
     lay-levels-requires
     same-length
     same-length-2
-    returns-4)
+    returns-3)

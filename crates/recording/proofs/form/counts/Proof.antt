@@ -20,8 +20,8 @@ abbrev μ-loop : tie.MeasureT-loop
 loop-holds : tie.Need-loop-holds Inv-loop μ-loop
 loop-holds c = (omega arith, tab-none _ _)
 
-events-within-requires : tie.Need-events-within-requires Inv-loop μ-loop
-events-within-requires c κs = search needs
+events-requires : tie.Need-events-requires Inv-loop μ-loop
+events-requires c κs = search needs
 
 mul-m : tie.Need-mul-m Inv-loop μ-loop
 mul-m c = search needs
@@ -38,7 +38,7 @@ loop-less c = search needs
 loop-again : tie.Need-loop-again Inv-loop μ-loop
 loop-again c =
     let L = c .before .before .loop in
-    (omega arith, rw (L .inv .1, c .events-within .ensures .0) (tab-more (L .p) _ _ (omega arith)))
+    (omega arith, rw (L .inv .1, c .events .ensures .0) (tab-more (L .p) _ _ (omega arith)))
 
 returns : tie.Need-returns Inv-loop μ-loop
 returns c = c .before .loop .inv .1 ∙ tab-full _ 8 _ _ (c .before .loop .inv .0) (c .loop-test .left) refl
@@ -50,7 +50,7 @@ counts-spec =
     Inv-loop
     μ-loop
     loop-holds
-    events-within-requires
+    events-requires
     mul-m
     array-write-m
     add-p

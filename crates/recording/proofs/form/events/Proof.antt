@@ -1,8 +1,10 @@
--- m is the field of w bits at the station's first bit, so below 512.
+-- Below n it is the field of w bits at the station's first bit, so below 512, and beyond n none.
+use mathlib.Core.Path.{sym, _∙_}
 use native.Mathlib.Omega.{arith}
-use borrow.Author.Needs.{needs}
 use Rattle.recording.specs.Form.{mAt}
 use Rattle.recording.proofs.PlaceLaws.{peeked-read}
+use Rattle.recording.proofs.DecodeLaws.{eventsAt-in, eventsAt-beyond}
+use borrow.Author.Needs.{needs}
 use Rattle.recording.proofs.form.events.Statement.{statement}
 use Rattle.recording.proofs.form.events.Tie as tie
 
@@ -14,7 +16,12 @@ peek-requires c κs = search needs
 
 returns : tie.Need-returns
 unfolding mAt
-returns c = peeked-read _ _ _ _ 9 _ (c .peek .ensures) (c .before .station-bit .ensures .0) (omega arith) (omega arith)
+returns c =
+    let f = peeked-read _ _ _ _ 9 _ (c .peek .ensures) (c .before .station-bit .ensures .0) (omega arith) (omega arith) in
+    (f .0 ∙ sym (eventsAt-in _ _ _ _ _ (c .before .before .if1 .taken)), f .1)
+
+returns-2 : tie.Need-returns-2
+returns-2 c = (sym (eventsAt-beyond _ _ _ _ _ (c .if1 .left)), omega arith)
 
 pub events-spec : {M : Type 1} → statement M
-events-spec = tie.close (tie.spec station-bit-requires peek-requires returns)
+events-spec = tie.close (tie.spec station-bit-requires peek-requires returns returns-2)

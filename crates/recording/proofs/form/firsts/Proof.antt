@@ -28,8 +28,8 @@ mul-f c = search needs
 array-write-f : tie.Need-array-write-f Inv-loop μ-loop
 array-write-f c = search needs
 
-events-within-requires : tie.Need-events-within-requires Inv-loop μ-loop
-events-within-requires c κs = search needs
+events-requires : tie.Need-events-requires Inv-loop μ-loop
+events-requires c κs = search needs
 
 wide-requires : tie.Need-wide-requires Inv-loop μ-loop
 wide-requires c κs = search needs
@@ -49,7 +49,7 @@ loop-again : tie.Need-loop-again Inv-loop μ-loop
 loop-again c =
     let L = c .before .before .before .loop in (
       omega arith,
-      rw (L .inv .1, c .wide .ensures .0, c .before .events-within .ensures .0) (sym (recordsTo-more _ _ _ _ _)),
+      rw (L .inv .1, c .wide .ensures .0, c .before .events .ensures .0) (sym (recordsTo-more _ _ _ _ _)),
       rw (L .inv .2, L .inv .1) (tab-more (L .p) _ _ (omega arith)),
     )
 
@@ -65,7 +65,7 @@ firsts-spec =
     loop-holds
     mul-f
     array-write-f
-    events-within-requires
+    events-requires
     wide-requires
     add-before
     add-p

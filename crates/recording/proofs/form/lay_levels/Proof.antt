@@ -12,19 +12,22 @@ use Rattle.recording.proofs.form.lay_levels.Statement.{statement}
 use Rattle.recording.proofs.form.lay_levels.Tie as tie
 
 abbrev Inv-loop : tie.InvT-loop
-Inv-loop lead w s n total out₀ r₀ out r = (r ≤ total) × (length out ≡ length out₀) × (out ≡ tab r (levelCell lead w s n) ++ drop r out₀)
+Inv-loop lead w s total out₀ n r₀ out r = (r ≤ total) × (length out ≡ length out₀) × (out ≡ tab r (levelCell lead w s n) ++ drop r out₀)
 
 abbrev μ-loop : tie.MeasureT-loop
-μ-loop lead w s n total out₀ r₀ out r = total - r
+μ-loop lead w s total out₀ n r₀ out r = total - r
+
+stations-requires : tie.Need-stations-requires Inv-loop μ-loop
+stations-requires c κs = search needs
 
 loop-holds : tie.Need-loop-holds Inv-loop μ-loop
 loop-holds c = (omega arith, refl, tab-none _ _)
 
-level-requires : tie.Need-level-requires Inv-loop μ-loop
-level-requires c κs = search needs
-
-excess-requires : tie.Need-excess-requires Inv-loop μ-loop
-excess-requires c κs = search needs
+level-cell-requires : tie.Need-level-cell-requires Inv-loop μ-loop
+level-cell-requires c κs =
+    let b = c .before .before in
+    let (_, h, g, k, _, _) = b .before .before .before .pre in
+    (h, g, omega (arith, b .stations .ensures .0), omega arith)
 
 mul-out : tie.Need-mul-out Inv-loop μ-loop
 mul-out c = search needs
@@ -39,19 +42,20 @@ loop-less : tie.Need-loop-less Inv-loop μ-loop
 loop-less c = search needs
 
 loop-again : tie.Need-loop-again Inv-loop μ-loop
-unfolding levelCell
 loop-again c =
-    let L = c .before .before .before .loop in (
+    let L = c .before .before .loop in (
       omega arith,
       simp length-set (L .inv .1),
-      rw (L .inv .2, c .excess .ensures, c .before .level .ensures .0) (tab-more (L .r) _ _ (omega arith)),
+      rw (L .inv .2, c .level-cell .ensures) (tab-more (L .r) _ _ (omega arith)),
     )
 
 same-length : tie.Need-same-length Inv-loop μ-loop
 same-length c = omega arith
 
 returns : tie.Need-returns Inv-loop μ-loop
-returns c = c .before .loop .inv .2 ∙ tab-front _ _ _ _ (c .before .loop .inv .0) (c .loop-test .left)
+returns c =
+    let L = c .before .loop in
+    rw (← (c .before .before .stations .ensures .0)) (L .inv .2 ∙ tab-front _ _ _ _ (L .inv .0) (c .loop-test .left))
 
 pub lay-levels-spec : {M : Type 1} → statement M
 lay-levels-spec =
@@ -59,9 +63,9 @@ lay-levels-spec =
     (tie.spec
     Inv-loop
     μ-loop
+    stations-requires
     loop-holds
-    level-requires
-    excess-requires
+    level-cell-requires
     mul-out
     slice-write-out
     add-r

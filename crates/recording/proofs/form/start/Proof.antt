@@ -1,23 +1,37 @@
--- Below n it is the excess number of the station's start level, and beyond n 0.
+-- Below n it is the excess number of the field of 12 bits after the station's count, and beyond n 0.
 use mathlib.Core.Path.{sym, ap, _∙_}
-use borrow.Author.Needs.{needs}
+use Prim.Native.Nat.{ℕ, _+_}
+use native.Mathlib.Omega.{arith}
 use Rattle.levels.specs.Level.{excessOf}
+use Rattle.recording.proofs.PlaceLaws.{peeked-read}
 use Rattle.recording.proofs.DecodeLaws.{startCell-in, startCell-beyond}
+use borrow.Author.Needs.{needs}
 use Rattle.recording.proofs.form.start.Statement.{statement}
 use Rattle.recording.proofs.form.start.Tie as tie
 
-start-bits-requires : tie.Need-start-bits-requires
-start-bits-requires c κs = search needs
+station-bit-requires : tie.Need-station-bit-requires
+station-bit-requires c κs = search needs
+
+add-peek : tie.Need-add-peek
+add-peek c = search needs
+
+peek-requires : tie.Need-peek-requires
+peek-requires c κs = search needs
 
 excess-requires : tie.Need-excess-requires
 excess-requires c κs = search needs
 
 returns : tie.Need-returns
 returns c =
-    c .excess .ensures ∙ ap excessOf (c .before .start-bits .ensures .0) ∙ sym (startCell-in _ _ _ _ _ (c .before .before .if1 .taken))
+    let b = c .before .before in
+    let A = b .before .before .before .args in
+    let f = peeked-read _ _ _ 12 12 _ (c .before .peek .ensures) (ap (λ (i : ℕ). i + A .w) (b .station-bit .ensures .0)) (omega arith) (omega arith) in
+    c .excess .ensures ∙ ap excessOf (f .0) ∙ sym (startCell-in _ _ _ _ _ (b .before .if1 .taken))
 
 returns-2 : tie.Need-returns-2
 returns-2 c = sym (startCell-beyond _ _ _ _ _ (c .if1 .left))
 
 pub start-spec : {M : Type 1} → statement M
-start-spec = tie.close (tie.spec start-bits-requires excess-requires returns returns-2)
+start-spec =
+    tie.close
+    (tie.spec station-bit-requires add-peek peek-requires excess-requires returns returns-2)
