@@ -1,13 +1,13 @@
 -- The writer's checks as a whole: which of them refuses, and what all of them say of what was handed in. In order: the tests before the records; the
--- bytes needed; each refusal; acceptance. Assumes nothing.
+-- bytes needed, and what is put; each refusal; acceptance. Assumes nothing.
 use mathlib.Core.Path.{_≡_, refl, sym, _∙_}
 use mathlib.Core.Bool.{true}
-use mathlib.Core.List.{[], _∷_}
+use mathlib.Core.List.{List, [], _∷_}
 use Prim.Native.Nat.{ℕ, _≤_, _<_}
 use native.Mathlib.Omega.{arith}
 use lib.Dec.{leb}
 use lib.IntN.{pos}
-use lib.ListN.{getD}
+use lib.ListN.{length, getD}
 use borrow.Author.Tests.{leb-true, le-leb, lt-leb}
 use Rattle.levels.specs.Level.{isLevel}
 use Rattle.cuts.proofs.BelowLaws.{and-true, every-true}
@@ -16,8 +16,10 @@ use Rattle.recording.specs.Form.{bytesFor, recordBit}
 use Rattle.recording.specs.Check.{test, faultOf, refusal, atWhole, orElse, scanRecords}
 use Rattle.writer.specs.Write.{Given, firstGiven, recordingGiven, givenTests, writerTests, neededGiven, checkedGiven}
 use Rattle.writer.specs.Tables.{wholeFault, checkedLists}
+use Rattle.writer.specs.Pack.{packInto, Placed, too-short, whole}
 use Rattle.recording.specs.declared.Refusal.{Refusal}
 use Rattle.recording.specs.declared.Checked.{Checked}
+use Rattle.writer.specs.declared.Written.{Written}
 use Rattle.recording.proofs.CheckLaws.{Pass, no-test, and-then, Numbered, no-number, and-number, pass-fault, fault-pass, fault-here, atWhole-0, atWhole-fault, atWhole-accepted, orElse-accepted, orElse-assoc}
 
 -- what the tests before the records say
@@ -50,6 +52,17 @@ whole-most g k e h = whole-says g (sym e ∙ h) .most
 pub needed-is : (lead w : ℕ) (g : Given) (t i b : ℕ) → t ≡ firstGiven g (g .n) → i ≡ recordBit lead w (g .n) t → b ≡ bytesFor i → b ≡ neededGiven lead w g
 unfolding neededGiven
 needed-is lead w g t i b et ei eb = rw (eb, ei, et) refl
+
+-- what is put, as the code decides it
+pub placed-none : (lead w : ℕ) (g : Given) (room : List ℕ) (t i b : ℕ) {x : Refusal} → t ≡ firstGiven g (g .n) → i ≡ recordBit lead w (g .n) t → b ≡ bytesFor i
+    → length room < b → x ≡ record { number = 13; station = 0; event = 0 } → Placed lead w g room room (Written.Refused x)
+placed-none lead w g room t i b et ei eb l ex = rw ex (too-short (rw (needed-is lead w g t i b et ei eb) at l) refl)
+
+pub placed-all : (lead w : ℕ) (g : Given) (room after : List ℕ) (t i b : ℕ) → t ≡ firstGiven g (g .n) → i ≡ recordBit lead w (g .n) t → b ≡ bytesFor i
+    → b ≤ length room → after ≡ packInto lead w g room → Placed lead w g room after (Written.Done b)
+placed-all lead w g room after t i b et ei eb l e =
+    let n = needed-is lead w g t i b et ei eb in
+    rw n (whole (rw n at l) e)
 
 -- refused before the records, or as the records are
 pub lists-whole : (g : Given) (k : ℕ) → k ≡ wholeFault g → (k ≡ 0 → ⊥) → refusal k 0 0 ≡ checkedLists g

@@ -121,11 +121,11 @@ module _ (turn : ℕ → List ℕ → List ℕ) (b : ℕ → ℕ) (up : (j : ℕ
       (rw e at (kept-later (suc j) (n - suc j))) .beside i k (inl l)
 
 -- the whole as the code makes it
-pub pack-is : (lead w : ℕ) (g : Given) (s a b c d : List ℕ) (t i : ℕ) → t ≡ firstGiven g (g .n) → i ≡ recordBit lead w (g .n) t
-    → a ≡ putOf s (lead - 4) 4 (g .n) → b ≡ turns (stationTurn lead w (g .counts) (g .starts)) a (g .n)
+pub pack-is : (lead w : ℕ) (g : Given) (s b c d : List ℕ) (t i : ℕ) → t ≡ firstGiven g (g .n) → i ≡ recordBit lead w (g .n) t
+    → b ≡ turns (stationTurn lead w (g .counts) (g .starts)) (putOf s (lead - 4) 4 (g .n)) (g .n)
     → c ≡ turns (recordTurn lead w (g .n) (g .origins) (g .numbers) (g .levels) (g .stamps)) b t → d ≡ putPadding i c → d ≡ packInto lead w g s
 unfolding packInto recorded stationed named
-pack-is lead w g s a b c d t i et ei ea eb ec ed = rw (ed, ei, ec, eb, ea, et) refl
+pack-is lead w g s b c d t i et ei eb ec ed = rw (ed, ei, ec, eb, et) refl
 
 module _ (w i : ℕ) (count : ℕ → ℕ) where
   kept-count : (q : ℕ) (s : List ℕ) → Kept s (putCount w i count q s) (i + w * q) (i + w * suc q)

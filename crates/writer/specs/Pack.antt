@@ -1,15 +1,17 @@
 -- What the writer's code puts into its room, field by field. Nothing here has to be believed: `PackRight` proves that the bytes pack the recording that
--- was handed in. In order: turns of a loop; a level's bits; zero bits; a count, a station's part and a record; the whole.
+-- was handed in. In order: turns of a loop; a level's bits; zero bits; a count, a station's part and a record; the whole; where it has room and where not.
+use mathlib.Core.Path.{_≡_}
 use mathlib.Core.Bool.{cond}
 use mathlib.Core.List.{List}
-use Prim.Native.Nat.{ℕ, zero, suc, _+_, _-_, _*_}
+use Prim.Native.Nat.{ℕ, zero, suc, _+_, _-_, _*_, _≤_, _<_}
 use lib.IntN.{ℤ, pos}
-use lib.ListN.{getD}
+use lib.ListN.{length, getD}
 use Rattle.put.specs.Put.{putOf}
 use Rattle.levels.specs.Level.{isLevel, bitsOf}
 use Rattle.cuts.specs.Cut.{at}
 use Rattle.recording.specs.Form.{bytesFor, stationBit, recordBit}
-use Rattle.writer.specs.Write.{Given, firstGiven}
+use Rattle.writer.specs.Write.{Given, firstGiven, neededGiven}
+use Rattle.writer.specs.declared.Written.{Written}
 
 -- s after the turns 0, 1, .., n of them
 unfoldable pub turns : (ℕ → List ℕ → List ℕ) → List ℕ → ℕ → List ℕ
@@ -60,3 +62,8 @@ module _ (lead w : ℕ) where
 
     unfoldable pub packInto : List ℕ → List ℕ
     packInto s = putPadding (recordBit lead w (g .n) (firstGiven g (g .n))) (recorded s)
+
+  -- all of it put where the room has the bytes needed, else 13 and nothing
+  pub data Placed (g : Given) (before after : List ℕ) : Written → Type 0 where
+    too-short : length before < neededGiven lead w g → after ≡ before → Placed g before after (Written.Refused (record { number = 13; station = 0; event = 0 }))
+    whole : neededGiven lead w g ≤ length before → after ≡ packInto g before → Placed g before after (Written.Done (neededGiven lead w g))

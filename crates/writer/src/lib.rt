@@ -1,17 +1,18 @@
 // The writer: the checks of what was handed in, and the packed recording of document 01 put into a room.
 ghost use mathlib.Core.Path.{_≡_};
 ghost use mathlib.Core.List.{_++_};
-ghost use Prim.Native.Nat.{ℕ, suc, _+_, _*_, _≤_, _<_};
+ghost use Prim.Native.Nat.{ℕ, suc, _+_, _-_, _*_, _≤_, _<_};
 ghost use lib.Dec.{leb};
 ghost use lib.IntN.{pos};
 ghost use lib.ListN.{length, getD, drop};
+ghost use Rattle.bits.specs.Bits.{putOf};
 ghost use Rattle.levels.specs.Level.{isLevel};
 ghost use Rattle.cuts.specs.Below.{every, sumTo, tab};
 ghost use Rattle.cuts.specs.Cut.{at};
 ghost use Rattle.recording.specs.Form.{stationBit, recordBit, bytesFor, lead8, width8};
 ghost use Rattle.writer.specs.Write.{Wrote};
 ghost use Rattle.writer.specs.Tables.{wholeFault, checkedLists, levelFault, givenFault, scanStation, scanGiven, givenCell};
-ghost use Rattle.writer.specs.Pack.{turns, levelBits, putPadding, putCount, putStation, putRecord, stationTurn, recordTurn, packInto};
+ghost use Rattle.writer.specs.Pack.{turns, levelBits, putPadding, putCount, putStation, putRecord, stationTurn, recordTurn, Placed};
 use levels::Fitted;
 use recording::Checked;
 use recording::Refusal;
@@ -40,7 +41,12 @@ pub fn write(
 ) -> Written
     ensures { λ r. ⌜ Wrote lead8 width8 (record { n = n; counts = now (counts .entry); starts = now (starts .entry); origins = now (origins .entry); numbers = now (numbers .entry); levels = now (levels .entry); stamps = now (stamps .entry) }) (now (room .entry)) (now (room .exit)) r ⌝ }
 {
-    write_form(
+    let v = check_lists(n as usize, counts, starts, origins, numbers, levels, stamps);
+    if let Checked::Refused(x) = v {
+        return Written::Refused(x);
+    }
+    pack(
+        room,
         LEAD,
         WIDTH,
         n as usize,
@@ -50,49 +56,7 @@ pub fn write(
         numbers,
         levels,
         stamps,
-        room,
     )
-}
-
-// What was handed in, checked and put into the front of the room; the room's own test comes last.
-fn write_form(
-    lead: usize,
-    w: usize,
-    n: usize,
-    counts: &[u8],
-    starts: &[i16],
-    origins: &[u8],
-    numbers: &[u16],
-    levels: &[i16],
-    stamps: &[u16],
-    room: &mut [u8],
-) -> Written
-    requires { ⌜ (4 ≤ lead) × (lead ≤ 8) × (8 ≤ w) × (w ≤ 9) ⌝ }
-    ensures { λ r. ⌜ Wrote lead w (record { n = n; counts = now (counts .entry); starts = now (starts .entry); origins = now (origins .entry); numbers = now (numbers .entry); levels = now (levels .entry); stamps = now (stamps .entry) }) (now (room .entry)) (now (room .exit)) r ⌝ }
-{
-    let v = check_lists(n, counts, starts, origins, numbers, levels, stamps);
-    if let Checked::Refused(x) = v {
-        return Written::Refused(x);
-    }
-    let firsts = firsts_of(counts);
-    let end = record_bit(lead, w, n, firsts[n]);
-    let needed = bytes_for(end);
-    if room.len() < needed {
-        return Written::Refused(whole(13));
-    }
-    pack(
-        room,
-        lead,
-        w,
-        n,
-        counts,
-        starts,
-        origins,
-        numbers,
-        levels,
-        stamps,
-    );
-    Written::Done(needed)
 }
 
 // The checks of the lists, in the written order.
@@ -332,7 +296,7 @@ fn with_level(k: u8, level: i16) -> u8
     14
 }
 
-// All that was handed in, field by field; zero bits up to a whole byte.
+// All that was handed in, field by field, and zero bits up to a whole byte; refused where the room is too short.
 fn pack(
     room: &mut [u8],
     lead: usize,
@@ -344,23 +308,29 @@ fn pack(
     numbers: &[u16],
     levels: &[i16],
     stamps: &[u16],
-)
+) -> Written
     requires { ⌜ (4 ≤ lead) × (lead ≤ 8) × (w ≤ 9) × (n ≤ 8) ⌝ }
-    ensures { λ _. ⌜ now (room .exit) ≡ packInto lead w (record { n = n; counts = now (counts .entry); starts = now (starts .entry); origins = now (origins .entry); numbers = now (numbers .entry); levels = now (levels .entry); stamps = now (stamps .entry) }) (now (room .entry)) ⌝ }
+    ensures { λ r. ⌜ Placed lead w (record { n = n; counts = now (counts .entry); starts = now (starts .entry); origins = now (origins .entry); numbers = now (numbers .entry); levels = now (levels .entry); stamps = now (stamps .entry) }) (now (room .entry)) (now (room .exit)) r ⌝ }
 {
     let firsts = firsts_of(counts);
     let total = firsts[n];
-    put::put(room, lead - 4, 4, n as u16);
+    let end = record_bit(lead, w, n, total);
+    let needed = bytes_for(end);
+    if room.len() < needed {
+        return Written::Refused(whole(13));
+    }
     put_stations(room, lead, w, n, counts, starts);
     put_records(room, lead, w, n, total, origins, numbers, levels, stamps);
-    put_padding(room, record_bit(lead, w, n, total));
+    put_padding(room, end);
+    Written::Done(needed)
 }
 
-// The parts of the n stations.
+// n, and the parts of the n stations.
 fn put_stations(room: &mut [u8], lead: usize, w: usize, n: usize, counts: &[u8], starts: &[i16])
-    requires { ⌜ (lead ≤ 8) × (w ≤ 9) × (n ≤ 8) ⌝ }
-    ensures { λ _. ⌜ now (room .exit) ≡ turns (stationTurn lead w (now (counts .entry)) (now (starts .entry))) (now (room .entry)) n ⌝ }
+    requires { ⌜ (4 ≤ lead) × (lead ≤ 8) × (w ≤ 9) × (n ≤ 8) ⌝ }
+    ensures { λ _. ⌜ now (room .exit) ≡ turns (stationTurn lead w (now (counts .entry)) (now (starts .entry))) (putOf (now (room .entry)) (lead - 4) 4 n) n ⌝ }
 {
+    put::put(room, lead - 4, 4, n as u16);
     let mut p: usize = 0;
     while p < n {
         let i = station_bit(lead, w, p);

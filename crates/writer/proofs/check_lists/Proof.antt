@@ -1,6 +1,6 @@
 -- The whole is tested first; where it has no fault n is at most 8, and the tables laid are those of the recording handed in.
 use mathlib.Core.Path.{ap, _∙_}
-use Prim.Native.Nat.{ℕ}
+use Prim.Native.Nat.{ℕ, _≤_}
 use native.Mathlib.Omega.{arith}
 use lib.ListN.{length-replicate}
 use borrow.Author.Needs.{needs}
@@ -20,6 +20,10 @@ whole-requires c κs = search needs
 returns : tie.Need-returns
 returns c = ap Checked.Refused (c .whole .ensures) ∙ lists-whole _ _ (c .before .before .whole-fault .ensures) (c .before .if1 .taken)
 
+-- the tests before the records have passed
+most : (c : tie.Else1) → c .before .before .before .before .before .before .args .n ≤ 8
+most c = whole-most _ _ (c .before .whole-fault .ensures) (c .if1 .left)
+
 counts-of-requires : tie.Need-counts-of-requires
 counts-of-requires c κs = search needs
 
@@ -27,14 +31,10 @@ firsts-of-requires : tie.Need-firsts-of-requires
 firsts-of-requires c κs = search needs
 
 mul-lay-given : tie.Need-mul-lay-given
-mul-lay-given c =
-    let z = c .before .before in
-    omega (arith, whole-most _ _ (z .before .whole-fault .ensures) (z .if1 .left))
+mul-lay-given c = omega (arith, most (c .before .before))
 
 array-read-lay-given : tie.Need-array-read-lay-given
-array-read-lay-given c =
-    let z = c .before .before in
-    omega (arith, whole-most _ _ (z .before .whole-fault .ensures) (z .if1 .left))
+array-read-lay-given c = omega (arith, most (c .before .before))
 
 slice-aggregate-lay-given : tie.Need-slice-aggregate-lay-given
 slice-aggregate-lay-given c = search needs
@@ -44,7 +44,7 @@ lay-given-requires c κs =
     let z = c .before .before .before in
     let a = z .before .before .before .before .before .before .args in
     let t = c .before .firsts-of .ensures .1 (a .n) in
-    (whole-most _ _ (z .before .whole-fault .ensures) (z .if1 .left), omega (arith, t), rw (length-replicate {A = ℕ} 32704 0) (omega (arith, t)))
+    (most z, omega (arith, t), rw (length-replicate {A = ℕ} 32704 0) (omega (arith, t)))
 
 slice-aggregate-scan-given : tie.Need-slice-aggregate-scan-given
 slice-aggregate-scan-given c = search needs
@@ -55,18 +55,16 @@ scan-given-requires c κs =
     let f = l .before .before in
     let z = f .before .before in
     let a = z .before .before .before .before .before .before .args in
-    let high = whole-most _ _ (z .before .whole-fault .ensures) (z .if1 .left) in
     let k = l .lay-given .kept .1 .1 .1 .0 ∙ length-replicate {A = ℕ} 32704 0 in
-    (high, omega (arith, k), rows-enough (a .counts .now) _ (f .firsts-of .ensures .0) _ (f .before .counts-of .ensures) (a .n) _ high (omega (arith, k, f .firsts-of .ensures .1 (a .n))))
+    (most z, omega (arith, k), rows-enough (a .counts .now) _ (f .firsts-of .ensures .0) _ (f .before .counts-of .ensures) (a .n) _ (most z) (omega (arith, k, f .firsts-of .ensures .1 (a .n))))
 
 returns-2 : tie.Need-returns-2
 returns-2 c =
     let l = c .before .before .before in
     let f = l .before .before in
     let z = f .before .before in
-    let high = whole-most _ _ (z .before .whole-fault .ensures) (z .if1 .left) in
     lists-records _ _ _ (z .before .whole-fault .ensures) (z .if1 .left)
-    (c .scan-given .ensures ∙ scan-right _ _ _ (f .before .counts-of .ensures) (f .firsts-of .ensures .0) high _ _ (l .lay-given .ensures))
+    (c .scan-given .ensures ∙ scan-right _ _ _ (f .before .counts-of .ensures) (f .firsts-of .ensures .0) (most z) _ _ (l .lay-given .ensures))
 
 pub check-lists-spec : {M : Type 1} → statement M
 check-lists-spec =

@@ -1,4 +1,4 @@
--- After p turns the parts of the first p stations are put; a turn puts one more.
+-- Once n is put: after p turns the parts of the first p stations are put; a turn puts one more.
 use mathlib.Core.Path.{_≡_, refl, _∙_}
 use Prim.Native.Nat.{_-_, _≤_}
 use native.Mathlib.Nat.{le-antisymm}
@@ -16,6 +16,15 @@ Inv-loop room₀ lead w n counts starts p₀ room p = (p ≤ n) × (length room 
 
 abbrev μ-loop : tie.MeasureT-loop
 μ-loop room₀ lead w n counts starts p₀ room p = n - p
+
+sub-put : tie.Need-sub-put Inv-loop μ-loop
+sub-put c = search needs
+
+cast-put : tie.Need-cast-put Inv-loop μ-loop
+cast-put c = search needs
+
+put-requires : tie.Need-put-requires Inv-loop μ-loop
+put-requires c κs = search needs
 
 loop-holds : tie.Need-loop-holds Inv-loop μ-loop
 loop-holds c = (omega arith, refl, turns-none _ _)
@@ -50,10 +59,11 @@ loop-again c =
     )
 
 same-length : tie.Need-same-length Inv-loop μ-loop
-same-length c = c .before .loop .inv .1
+same-length c = c .before .loop .inv .1 ∙ c .before .before .before .before .put .kept .0
 
 returns : tie.Need-returns Inv-loop μ-loop
-returns c = rw (le-antisymm (c .before .loop .inv .0) (c .loop-test .left)) at (c .before .loop .inv .2)
+returns c =
+    rw (le-antisymm (c .before .loop .inv .0) (c .loop-test .left), c .before .before .before .before .put .ensures .bytes) at (c .before .loop .inv .2)
 
 pub put-stations-spec : {M : Type 1} → statement M
 put-stations-spec =
@@ -61,6 +71,9 @@ put-stations-spec =
     (tie.spec
     Inv-loop
     μ-loop
+    sub-put
+    cast-put
+    put-requires
     loop-holds
     station-bit-requires
     count-at-requires
