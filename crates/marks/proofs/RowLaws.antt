@@ -1,4 +1,4 @@
--- Laws of the rows of station 1. In order: the events of a cut; a list behind its front; a row of zeros; the digits of a rank; lists filled in part; the last cut of a row,
+-- Laws of the rows of station 1. In order: a list behind its front; a row of zeros; the digits of a rank; lists filled in part; the last cut of a row,
 -- its other cuts and where it lies; the next row. Assumes nothing.
 use mathlib.Core.Path.{_≡_, refl, sym, ap, _∙_}
 use mathlib.Core.List.{List, [], _∷_, _++_, append-assoc, append-nil}
@@ -9,23 +9,16 @@ use native.Mathlib.Numerals.{add-one}
 use native.Mathlib.Omega.{arith}
 use lib.ListN.{length, take, drop, set, replicate, take-append-drop, length-append, length-drop, length-set, length-replicate, replicate-append-replicate, List·getD-eq-default}
 use lib.Seq.{length-take-le, take-at, drop-at, drop-set-lt, drop-append-add, drop-drop}
-use Rattle.cuts.specs.Below.{sumTo, tab}
-use Rattle.cuts.specs.Cut.{at, total}
+use Rattle.cuts.specs.Below.{tab}
+use Rattle.cuts.specs.Cut.{at}
 use Rattle.cuts.specs.Rank.{weight, unrank, box}
 use Rattle.cut.specs.Value.{countsOf, FullCut}
 use Rattle.cut.specs.declared.Cut.{Cut}
-use Rattle.cuts.proofs.BelowLaws.{sumTo-first, productTo-same, tab-same, length-tab, getD-tab}
+use Rattle.cuts.proofs.BelowLaws.{productTo-same, tab-same, length-tab, getD-tab}
 use Rattle.cuts.proofs.RankLaws.{weight-zero, weight-cons, box-cons}
 use Rattle.cuts.proofs.TabLaws.{front-more}
 use Rattle.cut.proofs.ValueLaws.{at-countsOf, weight-more}
 use Rattle.marks.specs.Rows.{cutAt, topAt, RowAt}
-
--- the events of the first n stations
-pub total-take : (n : ℕ) (l : List ℕ) → n ≤ length l → total (take n l) ≡ sumTo n (at l)
-unfolding sumTo
-total-take zero l h = refl
-total-take (suc n) [] h = absurd (not-suc-le-zero h)
-total-take (suc n) (x ∷ l) h = ap (λ (s : ℕ). x + s) (total-take n l (le-of-suc-le-suc h)) ∙ sym (sumTo-first n (at (x ∷ l)))
 
 -- the rest of a list whose first k are xs
 pub drop-front : (xs d : List ℕ) (k n : ℕ) → length xs ≡ k → k ≤ n → drop n (xs ++ drop k d) ≡ drop n d

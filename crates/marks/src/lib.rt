@@ -88,7 +88,7 @@ fn size_of(
     if marks < size {
         return 0;
     }
-    if path < total_of(full) {
+    if path < cut::events(full) {
         return 0;
     }
     if !covered(full, bases, cells, rows) {
@@ -430,7 +430,7 @@ fn walk(full: Cut, marks: &[u8], path: &mut [u8], size: usize) -> bool
     let n = full.n as usize;
     let strides = strides_of(full);
     let mut counts = full.counts;
-    let mut k = total_of(full);
+    let mut k = cut::events(full);
     while 0 < k {
         let p = first_back(marks, &counts, &strides, r, n);
         k -= 1;
@@ -467,22 +467,6 @@ fn count_back(counts: [u16; 8], p: usize) -> [u16; 8]
     }
     next[p] = count - 1;
     next
-}
-
-// The events of a full cut.
-fn total_of(full: Cut) -> usize
-    requires { ⌜ full .n ≤ 8 ⌝ }
-    ensures { λ r. ⌜ r ≡ total (countsOf full) ⌝ }
-{
-    let events = full.counts;
-    let n = full.n as usize;
-    let mut sum: usize = 0;
-    let mut p: usize = 0;
-    while p < n {
-        sum = sum + wide(events[p]);
-        p += 1;
-    }
-    sum
 }
 
 // Whether a sum lies from least to most.

@@ -5,7 +5,7 @@ use native.Mathlib.Omega.{arith}
 use borrow.Author.Tests.{not-true, not-false}
 use Rattle.cut.specs.Value.{countsOf}
 use Rattle.cuts.proofs.RankLaws.{box-pos}
-use Rattle.cut.proofs.ValueRight.{boxOf-full}
+use Rattle.cut.proofs.ValueRight.{boxOf-full, eventsOf-full}
 use Rattle.marks.proofs.FlatLaws.{sized, box-size, size-none, size-some}
 use Rattle.marks.proofs.size_of.Statement.{statement}
 use Rattle.marks.proofs.size_of.Tie as tie
@@ -29,14 +29,11 @@ returns-3 c =
     let box-of = c .before .before .before .box-of in
     size-none _ _ _ _ _ _ (λ f. omega (arith, box-size (start .args .full) (box-of .result) (box-of .ensures) (f .full) (f .limit), f .fits))
 
-total-of-requires : tie.Need-total-of-requires
-total-of-requires c κs =
-    let start = c .before .before .before .before in
-    let box-of = c .before .before .before .box-of in
-    sized (start .args .full) (box-of .result) (box-of .ensures) (c .before .before .if1 .left) (c .before .if2 .left) .full .most-eight
+events-requires : tie.Need-events-requires
+events-requires c κs = tt
 
 returns-4 : tie.Need-returns-4
-returns-4 c = size-none _ _ _ _ _ _ (λ f. omega (arith, c .before .total-of .ensures, f .way))
+returns-4 c = size-none _ _ _ _ _ _ (λ f. omega (arith, c .before .events .ensures ∙ eventsOf-full _ (f .full), f .way))
 
 covered-requires : tie.Need-covered-requires
 covered-requires c κs =
@@ -52,7 +49,7 @@ returns-6 c =
     let start = c .before .before .before .before .before .before .before .before in
     let box-of = c .before .before .before .before .before .before .before .box-of in
     let s = sized (start .args .full) (box-of .result) (box-of .ensures) (c .before .before .before .before .before .before .if1 .left) (c .before .before .before .before .before .if2 .left) in
-    size-some _ _ _ _ _ _ _ s (c .before .before .before .before .before .if2 .left) (c .before .before .before .before .if3 .left) (omega (arith, c .before .before .before .total-of .ensures)) (sym (c .before .covered .ensures) ∙ not-false _ (c .if5 .left))
+    size-some _ _ _ _ _ _ _ s (c .before .before .before .before .before .if2 .left) (c .before .before .before .before .if3 .left) (omega (arith, c .before .before .before .events .ensures ∙ eventsOf-full _ (s .full))) (sym (c .before .covered .ensures) ∙ not-false _ (c .if5 .left))
 
 pub size-of-spec : {M : Type 1} → statement M
 size-of-spec =
@@ -62,7 +59,7 @@ size-of-spec =
     returns
     returns-2
     returns-3
-    total-of-requires
+    events-requires
     returns-4
     covered-requires
     returns-5

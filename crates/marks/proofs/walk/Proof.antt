@@ -7,6 +7,7 @@ use lib.ListN.{length, take}
 use Rattle.cut.specs.Value.{countsOf}
 use Rattle.cuts.proofs.RankLaws.{box-pos, rank-lt}
 use Rattle.cut.proofs.ValueLaws.{eight-counts}
+use Rattle.cut.proofs.ValueRight.{eventsOf-full}
 use Rattle.marks.proofs.BackLaws.{Walked, walked-start, walked-steps, walked-found, walked-more, walked-done, length-stridesOf}
 use Rattle.marks.proofs.FlatLaws.{rank-last, walked-none, walked-some}
 use Rattle.marks.proofs.walk.Statement.{statement}
@@ -41,8 +42,8 @@ strides-of-requires c κs =
     let start = c .before .before .before .before .before in
     (start .pre .0, start .pre .1)
 
-total-of-requires : tie.Need-total-of-requires Inv-loop μ-loop
-total-of-requires c κs = c .before .before .before .before .before .before .before .pre .0 .most-eight
+events-requires : tie.Need-events-requires Inv-loop μ-loop
+events-requires c κs = tt
 
 loop-holds : tie.Need-loop-holds Inv-loop μ-loop
 loop-holds c =
@@ -83,7 +84,7 @@ slice-write-path : tie.Need-slice-write-path Inv-loop μ-loop
 slice-write-path c =
     let start = c .before .before .before .before .before .before .before .before .before .before .before .before .before in
     let loop = c .before .before .before .before .loop in
-    omega (arith, loop .inv .place, loop .inv .length, c .before .before .before .before .before .total-of .ensures, start .pre .4)
+    omega (arith, loop .inv .place, loop .inv .length, c .before .before .before .before .before .events .ensures ∙ eventsOf-full _ (start .pre .0), start .pre .4)
 
 slice-aggregate-rank-back : tie.Need-slice-aggregate-rank-back Inv-loop μ-loop
 slice-aggregate-rank-back c = sym (ap length (c .before .before .before .before .before .before .before .before .strides-of .ensures) ∙ length-stridesOf _ (c .before .before .before .before .before .before .before .before .before .before .before .before .before .before .pre .0))
@@ -112,7 +113,7 @@ loop-again c =
     let l = eight-counts (start .args .full) _ (start .good .0) in
     let e : loop .k ≡ loop .k - 1 + 1 = omega arith in
     rw (c .count-back .ensures, c .before .rank-back .ensures, strides-of .ensures)
-    (walked-more _ (start .pre .0) l _ _ _ _ _ _ _ _ (rw e at (loop .inv)) (rw (c .before .before .before .before .before .before .before .before .total-of .ensures) (start .pre .4)) (rw (strides-of .ensures) at (c .before .before .before .first-back .ensures .0)))
+    (walked-more _ (start .pre .0) l _ _ _ _ _ _ _ _ (rw e at (loop .inv)) (rw (c .before .before .before .before .before .before .before .before .events .ensures ∙ eventsOf-full _ (start .pre .0)) (start .pre .4)) (rw (strides-of .ensures) at (c .before .before .before .first-back .ensures .0)))
 
 same-length : tie.Need-same-length Inv-loop μ-loop
 same-length c = c .before .loop .inv .length
@@ -121,7 +122,7 @@ returns-2 : tie.Need-returns-2 Inv-loop μ-loop
 returns-2 c =
     let start = c .before .before .before .before .before .before .before .before .before .before in
     walked-some _ _ _ _ _ (rank-last (start .args .full) (start .args .size) (start .pre .2)) (c .before .before .before .before .before .before .if1 .left)
-    (rw (c .before .before .total-of .ensures) at (walked-done _ (start .pre .0) (eight-counts (start .args .full) _ (start .good .0)) _ _ _ _ _ _ _ (c .before .loop .inv) (c .loop-test .left)))
+    (rw (c .before .before .events .ensures ∙ eventsOf-full _ (start .pre .0)) at (walked-done _ (start .pre .0) (eight-counts (start .args .full) _ (start .good .0)) _ _ _ _ _ _ _ (c .before .loop .inv) (c .loop-test .left)))
 
 pub walk-spec : {M : Type 1} → statement M
 walk-spec =
@@ -134,7 +135,7 @@ walk-spec =
     returns
     cast-n
     strides-of-requires
-    total-of-requires
+    events-requires
     loop-holds
     slice-aggregate-first-back
     slice-aggregate-first-back-2
