@@ -9,7 +9,7 @@ ghost use Rattle.cuts.specs.Cut.{at};
 ghost use Rattle.cuts.specs.Rank.{weight};
 ghost use Rattle.cut.specs.Value.{mostAt, under, isFull, isCut, isStation, withCount, nextCount, moved, forwardOf, backOf, boxOf, rankOf, eventsOf};
 
-// Above every count: none.
+// No count is as high: it stands for none.
 const NO_COUNT: usize = 65536;
 
 // One event number for each station; counts beyond n are 0.
