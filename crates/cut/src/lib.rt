@@ -76,6 +76,23 @@ pub fn rank(c: Cut, full: Cut) -> Ranked
     Ranked::At(rank_sum(full, c))
 }
 
+// T, the events of the recording: the sum of the counts of the stations 1 to n; 0 where there is no such recording.
+pub fn events(full: Cut) -> usize
+    ensures { λ r. ⌜ r ≡ eventsOf full ⌝ }
+{
+    if !is_full(full) {
+        return 0;
+    }
+    let n = full.n as usize;
+    let mut t: usize = 0;
+    let mut q: usize = 0;
+    while q < n {
+        t += count(full, q);
+        q += 1;
+    }
+    t
+}
+
 // c one event of the station further on, or back, or that there is none.
 fn step(full: Cut, c: Cut, station: u8, on: bool) -> Moved
     ensures { λ r. ⌜ r ≡ cond on (forwardOf full c station) (backOf full c station) ⌝ }
@@ -229,22 +246,4 @@ fn wide(x: u16) -> usize
     ensures { λ r. ⌜ (r ≡ x) × (r < 65536) ⌝ }
 {
     x as usize
-}
-
-// T, the events of the recording: the sum of the counts of the stations 1 to n; 0 where there is no such recording.
-pub fn events(full: Cut) -> usize
-    ensures { λ r. ⌜ r ≡ eventsOf full ⌝ }
-{
-    if !is_full(full) {
-        return 0;
-    }
-    let n = full.n as usize;
-    let counts = full.counts;
-    let mut t: usize = 0;
-    let mut q: usize = 0;
-    while q < n {
-        t += wide(counts[q]);
-        q += 1;
-    }
-    t
 }

@@ -14,10 +14,10 @@ use Rattle.cut.proofs.events.Statement.{statement}
 use Rattle.cut.proofs.events.Tie as tie
 
 abbrev Inv-loop : tie.InvT-loop
-Inv-loop n counts t₀ q₀ t q = (q ≤ n) × (n ≤ 8) × (t ≡ sumTo q (at counts)) × (t ≤ 65535 * q)
+Inv-loop full n t₀ q₀ t q = (q ≤ n) × (n ≤ 8) × (t ≡ sumTo q (at (full .counts))) × (t ≤ 65535 * q)
 
 abbrev μ-loop : tie.MeasureT-loop
-μ-loop n counts t₀ q₀ t q = n - q
+μ-loop full n t₀ q₀ t q = n - q
 
 is-full-requires : tie.Need-is-full-requires Inv-loop μ-loop
 is-full-requires c κs = search needs
@@ -31,17 +31,11 @@ cast-n c = search needs
 loop-holds : tie.Need-loop-holds Inv-loop μ-loop
 unfolding sumTo
 loop-holds c =
-    let f = isFull-is _ .0 (answered-true (c .before .before .before .is-full .ensures) (c .before .before .if1 .left)) in
+    let f = isFull-is _ .0 (answered-true (c .before .before .is-full .ensures) (c .before .if1 .left)) in
     (omega arith, f .most-eight, refl, omega arith)
 
-mul-wide : tie.Need-mul-wide Inv-loop μ-loop
-mul-wide c = search needs
-
-array-read-wide : tie.Need-array-read-wide Inv-loop μ-loop
-array-read-wide c = omega arith
-
-wide-requires : tie.Need-wide-requires Inv-loop μ-loop
-wide-requires c κs = search needs
+count-requires : tie.Need-count-requires Inv-loop μ-loop
+count-requires c κs = search needs
 
 add-t : tie.Need-add-t Inv-loop μ-loop
 add-t c = search needs
@@ -53,11 +47,11 @@ loop-less : tie.Need-loop-less Inv-loop μ-loop
 loop-less c = search needs
 
 loop-again : tie.Need-loop-again Inv-loop μ-loop
-loop-again c = (omega arith, search needs, rw (c .wide .ensures .0, c .before .before .loop .inv .2) (sym (sumTo-more _ _)), omega arith)
+loop-again c = (omega arith, search needs, rw (c .count .ensures .0, c .before .before .loop .inv .2) (sym (sumTo-more _ _)), omega arith)
 
 returns-2 : tie.Need-returns-2 Inv-loop μ-loop
 returns-2 c =
-    let b = c .before .before .before .before in
+    let b = c .before .before .before in
     let f = isFull-is _ .0 (answered-true (b .before .is-full .ensures) (b .if1 .left)) in
     let l = eight-counts (b .before .before .args .full) _ (b .before .before .good .0) in
     rw (eventsOf-loop _ f l) (rw (le-antisymm (c .before .loop .inv .0) (c .loop-test .left)) at (c .before .loop .inv .2))
@@ -72,9 +66,7 @@ events-spec =
     returns
     cast-n
     loop-holds
-    mul-wide
-    array-read-wide
-    wide-requires
+    count-requires
     add-t
     add-q
     loop-less
