@@ -81,13 +81,13 @@ module _ (rows : List ℕ) where
     placeRight-is q x a b l o e₁ e₂ e₃ e₄ e₅ = rw (e₁, e₄, e₂, e₃, e₅, add-one e) refl
 
     -- the rows do not have the stamp, or the sender's
-    pub stampFault-short : (n : ℕ) → length rows / 8 - first ≤ e → 7 ≡ stampFault n rows p first e sender k
+    pub stampFault-short : (n x : ℕ) → x ≡ length rows / 8 - first → x ≤ e → 7 ≡ stampFault n rows p first e sender k
     unfolding stampFault has
-    stampFault-short n h = rw (lt-leb (suc e) (length rows / 8 - first) (omega arith)) refl
+    stampFault-short n x ex h = rw (← ex, lt-leb (suc e) x (omega arith)) refl
 
-    pub stampFault-unsent : (n : ℕ) → length rows / 8 - sender < k → 7 ≡ stampFault n rows p first e sender k
+    pub stampFault-unsent : (n x : ℕ) → x ≡ length rows / 8 - sender → x < k → 7 ≡ stampFault n rows p first e sender k
     unfolding stampFault has
-    stampFault-unsent n h = rw (lt-leb k (length rows / 8 - sender) h, and-false) refl
+    stampFault-unsent n x ex h = rw (lt-leb k (length rows / 8 - sender) (rw (← ex) h), and-false) refl
 
     pub stampFault-wrong : (n q : ℕ) → q < n → placeRight rows p first e sender k q ≡ false → 7 ≡ stampFault n rows p first e sender k
     unfolding stampFault
@@ -98,9 +98,9 @@ module _ (rows : List ℕ) where
     unfolding stampFault has
     stampFault-every n h g = rw (le-leb (suc e) (length rows / 8 - first) h, le-leb k (length rows / 8 - sender) g) refl
 
-    pub stampFault-right : (n q : ℕ) → e < length rows / 8 - first → k ≤ length rows / 8 - sender → q ≤ n → n ≤ q → every q (placeRight rows p first e sender k) ≡ true
-        → 0 ≡ stampFault n rows p first e sender k
-    stampFault-right n q i j h g r = rw (stampFault-every n i j, rw (le-antisymm h g) at r) refl
+    pub stampFault-right : (n q x y : ℕ) → x ≡ length rows / 8 - first → e < x → y ≡ length rows / 8 - sender → k ≤ y → q ≤ n → n ≤ q
+        → every q (placeRight rows p first e sender k) ≡ true → 0 ≡ stampFault n rows p first e sender k
+    stampFault-right n q x y ex i ey j h g r = rw (stampFault-every n (rw (← ex) i) (rw (← ey) j), rw (le-antisymm h g) at r) refl
 
 module _ (n : ℕ) (rows : List ℕ) (p first e k : ℕ) where
   pub localFault-number : (k ≡ 0 → ⊥) → 6 ≡ localFault n rows p first e k
@@ -124,13 +124,13 @@ module _ (n : ℕ) (m firsts rows : List ℕ) (p e o k : ℕ) where
   unfolding receiptFault
   receiptFault-none h g l = rw (le-ltb n o h, ne-eqb o (p + 1) g, lt-leb 1 k l) refl
 
-  pub receiptFault-late : o ≤ n → (o ≡ p + 1 → ⊥) → 1 ≤ k → at m (o - 1) < k → 6 ≡ receiptFault n m firsts rows p e o k
+  pub receiptFault-late : o ≤ n → (o ≡ p + 1 → ⊥) → 1 ≤ k → (x : ℕ) → x ≡ at m (o - 1) → x < k → 6 ≡ receiptFault n m firsts rows p e o k
   unfolding receiptFault
-  receiptFault-late h g l j = rw (le-ltb n o h, ne-eqb o (p + 1) g, le-leb 1 k l, lt-leb k (at m (o - 1)) j) refl
+  receiptFault-late h g l x ex j = rw (le-ltb n o h, ne-eqb o (p + 1) g, le-leb 1 k l, ← ex, lt-leb k x j) refl
 
-  pub receiptFault-stamp : o ≤ n → (o ≡ p + 1 → ⊥) → 1 ≤ k → k ≤ at m (o - 1) → stampFault n rows p (at firsts p) e (at firsts (o - 1)) k ≡ receiptFault n m firsts rows p e o k
+  pub receiptFault-stamp : o ≤ n → (o ≡ p + 1 → ⊥) → 1 ≤ k → (x : ℕ) → x ≡ at m (o - 1) → k ≤ x → stampFault n rows p (at firsts p) e (at firsts (o - 1)) k ≡ receiptFault n m firsts rows p e o k
   unfolding receiptFault
-  receiptFault-stamp h g l j = rw (le-ltb n o h, ne-eqb o (p + 1) g, le-leb 1 k l, le-leb k (at m (o - 1)) j) refl
+  receiptFault-stamp h g l x ex j = rw (le-ltb n o h, ne-eqb o (p + 1) g, le-leb 1 k l, ← ex, le-leb k x j) refl
 
 -- a receipt from the station at place i
 pub receiptFault-from : (n : ℕ) (m firsts rows : List ℕ) (p e i k : ℕ)

@@ -1,22 +1,21 @@
 -- The tests go in the order of `receiptFault`, and each `return` is the law of the first that fails; what is left is the stamp's fault.
 use mathlib.Core.Path.{_∙_}
-use native.Mathlib.Omega.{arith}
 use borrow.Author.Needs.{needs}
 use Rattle.faults.proofs.FaultLaws.{receiptFault-above, receiptFault-own, receiptFault-none, receiptFault-late, receiptFault-stamp}
 use Rattle.faults.proofs.receipt_fault.Statement.{statement}
 use Rattle.faults.proofs.receipt_fault.Tie as tie
 
 returns : tie.Need-returns
-returns c = receiptFault-above _ _ _ _ _ _ _ _ (omega arith)
+returns c = receiptFault-above _ _ _ _ _ _ _ _ (c .if1 .taken)
 
 add-if2 : tie.Need-add-if2
 add-if2 c = search needs
 
 returns-2 : tie.Need-returns-2
-returns-2 c = receiptFault-own _ _ _ _ _ _ _ _ (omega arith) (omega arith)
+returns-2 c = receiptFault-own _ _ _ _ _ _ _ _ (c .before .if1 .left) (c .if2 .taken)
 
 returns-3 : tie.Need-returns-3
-returns-3 c = receiptFault-none _ _ _ _ _ _ _ _ (omega arith) (c .before .if2 .left) (omega arith)
+returns-3 c = receiptFault-none _ _ _ _ _ _ _ _ (c .before .before .if1 .left) (c .before .if2 .left) (c .if3 .taken)
 
 sub-sender : tie.Need-sub-sender
 sub-sender c = search needs
@@ -31,7 +30,9 @@ wide-requires : tie.Need-wide-requires
 wide-requires c κs = search needs
 
 returns-4 : tie.Need-returns-4
-returns-4 c = receiptFault-late _ _ _ _ _ _ _ _ (omega arith) (c .before .before .before .if2 .left) (omega arith) (omega arith)
+returns-4 c =
+    let b = c .before .before in
+    receiptFault-late _ _ _ _ _ _ _ _ (b .before .before .if1 .left) (b .before .if2 .left) (b .if3 .left) _ (c .before .wide .ensures .0) (c .if4 .taken)
 
 mul-stamp-fault : tie.Need-mul-stamp-fault
 mul-stamp-fault c = search needs
@@ -46,11 +47,13 @@ array-read-stamp-fault-2 : tie.Need-array-read-stamp-fault-2
 array-read-stamp-fault-2 c = search needs
 
 stamp-fault-requires : tie.Need-stamp-fault-requires
-stamp-fault-requires c κs = search needs
+stamp-fault-requires c κs = c .before .before .before .before .before .before .pre .0
 
 returns-5 : tie.Need-returns-5
 returns-5 c =
-    c .stamp-fault .ensures ∙ receiptFault-stamp _ _ _ _ _ _ _ _ (omega arith) (c .before .before .before .before .if2 .left) (omega arith) (omega arith)
+    let b = c .before .before .before in
+    c .stamp-fault .ensures
+    ∙ receiptFault-stamp _ _ _ _ _ _ _ _ (b .before .before .if1 .left) (b .before .if2 .left) (b .if3 .left) _ (c .before .before .wide .ensures .0) (c .before .if4 .left)
 
 pub receipt-fault-spec : {M : Type 1} → statement M
 receipt-fault-spec =

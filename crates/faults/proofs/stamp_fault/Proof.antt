@@ -22,13 +22,13 @@ left-requires : tie.Need-left-requires Inv-loop μ-loop
 left-requires c κs = search needs
 
 returns : tie.Need-returns Inv-loop μ-loop
-returns c = stampFault-short _ _ _ _ _ _ _ (omega arith)
+returns c = stampFault-short _ _ _ _ _ _ _ _ (c .before .left .ensures) (c .if1 .taken)
 
 left-requires-2 : tie.Need-left-requires-2 Inv-loop μ-loop
 left-requires-2 c κs = search needs
 
 returns-2 : tie.Need-returns-2 Inv-loop μ-loop
-returns-2 c = stampFault-unsent _ _ _ _ _ _ _ (omega arith)
+returns-2 c = stampFault-unsent _ _ _ _ _ _ _ _ (c .before .left2 .ensures) (c .if2 .taken)
 
 loop-holds : tie.Need-loop-holds Inv-loop μ-loop
 unfolding every
@@ -76,7 +76,9 @@ loop-again c =
     )
 
 returns-4 : tie.Need-returns-4 Inv-loop μ-loop
-returns-4 c = stampFault-right _ _ _ _ _ _ _ _ (omega arith) (omega arith) (c .before .loop .inv .0) (c .loop-test .left) (c .before .loop .inv .1)
+returns-4 c =
+    let b = c .before .before in
+    stampFault-right _ _ _ _ _ _ _ _ _ _ (b .before .before .before .left .ensures) (b .before .before .if1 .left) (b .before .left2 .ensures) (b .if2 .left) (c .before .loop .inv .0) (c .loop-test .left) (c .before .loop .inv .1)
 
 pub stamp-fault-spec : {M : Type 1} → statement M
 stamp-fault-spec =
