@@ -16,7 +16,7 @@ use Rattle.cut.specs.Value.{countsOf, FullCut}
 use Rattle.cut.specs.declared.Cut.{Cut}
 use Rattle.cuts.proofs.BelowLaws.{productTo-same, tab-same, length-tab, getD-tab}
 use Rattle.cuts.proofs.RankLaws.{weight-zero, weight-cons, box-cons}
-use Rattle.cuts.proofs.TabLaws.{front-more}
+use Rattle.cuts.proofs.TabLaws.{front-more, tab-more}
 use Rattle.cut.proofs.ValueLaws.{at-countsOf, weight-more}
 use Rattle.marks.specs.Rows.{cutAt, topAt, RowAt}
 
@@ -79,7 +79,7 @@ at-drop-one : (l : List ℕ) (i : ℕ) → at (drop 1 l) i ≡ at l (suc i)
 at-drop-one [] i = refl
 at-drop-one (x ∷ l) i = refl
 
-pub digitAt-more : (events : List ℕ) (j i : ℕ) → digitAt events j (i + 1) ≡ (j / weight (drop 1 events) i) % (at events (i + 1) + 1)
+digitAt-more : (events : List ℕ) (j i : ℕ) → digitAt events j (i + 1) ≡ (j / weight (drop 1 events) i) % (at events (i + 1) + 1)
 unfolding digitAt
 digitAt-more events j i = rw (add-one i, add-one (at events (suc i)), at-drop-one) refl
 
@@ -93,11 +93,21 @@ pub weight-next : (l : List ℕ) (p w k : ℕ) → w ≡ weight l p → k ≡ at
 weight-next l p w k e f = rw (e, f, weight-more) refl
 
 -- what remains of j after one digit more
-pub digits-left : (events : List ℕ) (j i : ℕ) → j / weight (drop 1 events) i / (at events (i + 1) + 1) ≡ j / weight (drop 1 events) (i + 1)
+digits-left : (events : List ℕ) (j i : ℕ) → j / weight (drop 1 events) i / (at events (i + 1) + 1) ≡ j / weight (drop 1 events) (i + 1)
 digits-left events j i =
     div-div-eq-div-mul j (weight (drop 1 events) i) (at events (i + 1) + 1)
     ∙ ap (λ (w : ℕ). j / w)
     (weight-next (drop 1 events) i _ (at events (i + 1)) refl (sym (at-drop-one events i ∙ ap (at events) (sym (add-one i)))))
+
+-- one count more of the last cut of row j, of the eight
+pub top-more : (events room counts : List ℕ) (j i left w : ℕ) → length room ≡ 8 → i + 1 < 8 → left ≡ j / weight (drop 1 events) i → w ≡ at events (i + 1)
+    → counts ≡ tab (i + 1) (digitAt events j) ++ drop (i + 1) room
+    → (left / (w + 1) ≡ j / weight (drop 1 events) (i + 1))
+    × (set counts (i + 1) (left % (w + 1)) ≡ tab (i + 1 + 1) (digitAt events j) ++ drop (i + 1 + 1) room)
+top-more events room counts j i left w eight l e f laid = (
+  rw (e, f) (digits-left events j i),
+  rw (e, f, ← digitAt-more events j i, laid) (tab-more (i + 1) (digitAt events j) room (omega arith)),
+)
 
 drop-replicate : (n k a : ℕ) → drop n (replicate k a) ≡ replicate (k - n) a
 drop-replicate zero k a =

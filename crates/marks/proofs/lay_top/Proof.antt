@@ -7,9 +7,8 @@ use native.Mathlib.Omega.{arith}
 use lib.ListN.{length, drop, length-set}
 use Rattle.cuts.specs.Below.{productTo, tab}
 use Rattle.cuts.specs.Rank.{weight}
-use Rattle.cuts.proofs.TabLaws.{tab-more}
 use Rattle.marks.specs.Rows.{cutWith}
-use Rattle.marks.proofs.RowLaws.{digitAt, digitAt-more, digits-left, top-one, topAt-laid}
+use Rattle.marks.proofs.RowLaws.{digitAt, top-one, top-more, topAt-laid}
 use Rattle.marks.proofs.lay_top.Statement.{statement}
 use Rattle.marks.proofs.lay_top.Tie as tie
 
@@ -92,15 +91,9 @@ loop-again : tie.Need-loop-again Inv-loop μ-loop
 loop-again c =
     let start = c .before .before .before .before .before .before .before in
     let loop = c .before .before .before .loop in
-    let wide = c .wide in
-    let events = start .args .events .now in (
-      omega arith,
-      loop .inv .1,
-      simp length-set (loop .inv .2),
-      rw (loop .inv .3, wide .ensures .0) (digits-left events (start .args .j) (loop .i)),
-      rw (loop .inv .3, wide .ensures .0, ← digitAt-more events (start .args .j) (loop .i), loop .inv .4)
-          (tab-more _ (digitAt events (start .args .j)) _ (omega (arith, loop .inv .1, start .pre .0 .most-eight))),
-    )
+    let more =
+    top-more (start .args .events .now) _ (loop .counts) (start .args .j) (loop .i) (loop .left) (c .wide .result) (loop .inv .1) (omega (arith, start .pre .0 .most-eight)) (loop .inv .3) (c .wide .ensures .0) (loop .inv .4) in
+    (omega arith, loop .inv .1, simp length-set (loop .inv .2), more .0, more .1)
 
 same-length : tie.Need-same-length Inv-loop μ-loop
 same-length c = omega arith

@@ -1,8 +1,6 @@
 -- After the stations up to place p low is the largest of their needs and the sum that of their weights; one whose row is not met ends the search.
-use mathlib.Core.Path.{sym, _∙_}
 use Prim.Native.Nat.{_-_, _≤_}
 use native.Mathlib.Omega.{arith}
-use borrow.Author.Tests.{not-true, not-false}
 use Rattle.marks.proofs.OthersLaws.{OthersTo, others-start, others-more, others-unmet, others-done}
 use Rattle.marks.proofs.others_of.Statement.{statement}
 use Rattle.marks.proofs.others_of.Tie as tie
@@ -61,8 +59,8 @@ row-met-requires c κs =
 returns : tie.Need-returns Inv-loop μ-loop
 returns c =
     let test = c .before .before .before .before .before in
-    let loop = test .before in
-    (others-unmet _ _ _ _ _ _ (loop .loop .low) (loop .loop .sum) (loop .loop .inv .0) (test .loop-test .taken) (rw (c .before .before .wide .ensures .0) at (sym (c .before .row-met .ensures) ∙ not-true _ (c .if1 .taken))), omega arith)
+    let loop = test .before .loop in
+    others-unmet _ _ _ _ _ _ (loop .low) (loop .sum) (loop .inv .0) _ (c .before .before .wide .ensures .0) (test .loop-test .taken) _ (c .before .row-met .ensures) (c .if1 .taken)
 
 mul-wide-2 : tie.Need-mul-wide-2 Inv-loop μ-loop
 mul-wide-2 c =
@@ -116,18 +114,14 @@ loop-less c = omega arith
 
 loop-again : tie.Need-loop-again Inv-loop μ-loop
 loop-again c =
-    let loop = c .before .before .before .before .before .before .before .before .before .before .before in (
-      omega arith,
-      omega arith,
-      rw (c .before .before .higher .ensures, c .before .before .before .wide2 .ensures .0, c .wide3 .ensures .0, c .before .before .before .before .before .before .before .wide .ensures .0)
-          (others-more _ _ _ _ _ _ _ _ (loop .loop .inv .0) (loop .loop .inv .2) (rw (c .before .before .before .before .before .before .before .wide .ensures .0) at (sym (c .before .before .before .before .before .before .row-met .ensures) ∙ not-false _ (c .before .before .before .before .before .if1 .left))) (rw (c .wide3 .ensures .0, c .before .before .before .before .before .before .before .wide .ensures .0) at (c .wide3 .ensures .1))),
-    )
+    let test = c .before .before .before .before .before .before .before .before .before .before in
+    let loop = test .before .loop in
+    others-more _ _ _ _ _ _ _ _ (loop .inv .0) _ (c .before .before .before .before .before .before .before .wide .ensures .0) (test .loop-test .taken) _ (c .before .before .before .before .before .before .row-met .ensures) _ _ _ (loop .inv .2) (c .before .before .before .before .before .if1 .left) (c .before .before .before .wide2 .ensures .0) (c .before .before .higher .ensures) (c .wide3 .ensures .0) (c .wide3 .ensures .1)
 
 returns-2 : tie.Need-returns-2 Inv-loop μ-loop
 returns-2 c =
-    let loop = c .before in
-    let start = loop .before .before .before .before .before in
-    (others-done _ _ _ _ _ _ _ _ (loop .loop .inv .0) (loop .loop .inv .2) (loop .loop .inv .1) (c .loop-test .left), omega (arith, loop .loop .inv .2 .small, start .pre .most))
+    let loop = c .before .loop in
+    others-done _ _ _ _ _ _ _ _ (loop .inv .0) (loop .inv .2) (loop .inv .1) (c .loop-test .left) (c .before .before .before .before .before .before .pre .most)
 
 pub others-of-spec : {M : Type 1} → statement M
 others-of-spec =
