@@ -6,7 +6,7 @@ use Prim.Native.Nat.{ℕ, zero, suc, _+_, _-_, _*_, _≤_, _<_}
 use native.Mathlib.Numerals.{add-one}
 use native.Mathlib.Omega.{arith}
 use lib.Dec.{ltb, eqb}
-use lib.ListN.{length, take, drop, set, replicate, length-append, length-drop, length-set, List·getD-append, take-append-drop}
+use lib.ListN.{length, take, drop, set, replicate, length-append, length-drop, length-set, length-take, List·getD-append, take-append-drop}
 use lib.Seq.{getD-take, getD-set-same, take-set-lt, drop-set-lt, slice, slice-empty, slice-cons}
 use borrow.Author.Tests.{ltb-true, ltb-false}
 use Rattle.cuts.specs.Below.{first, tab}
@@ -115,6 +115,18 @@ length-back p [] = refl
 length-back zero (x ∷ c) = refl
 length-back (suc p) (x ∷ c) = ap suc (length-back p c)
 
+-- a step back that is taken only at a place below n
+length-stepped : (b : Bool) (p : ℕ) (c : List ℕ) → length (cond b (back p c) c) ≡ length c
+length-stepped true p c = length-back p c
+length-stepped false p c = refl
+
+take-stepped : (n p : ℕ) (c : List ℕ) → take n (cond (ltb p n) (back p c) c) ≡ take n (back p c)
+take-stepped n p c = go (ltb p n) refl
+  where
+    go : (b : Bool) → ltb p n ≡ b → take n (cond b (back p c) c) ≡ take n (back p c)
+    go true e = refl
+    go false e = sym (take-back n p c ∙ back-beyond p (take n c) (omega (arith, ltb-false p n e, length-take n c)))
+
 -- what is so of the room, the counts and the rank when k of the events are left
 pub record Walked (full marks room : List ℕ) (events n : ℕ) (path counts : List ℕ) (r k : ℕ) : Type 0 where
   pub place : k ≤ events
@@ -143,27 +155,30 @@ module _ (m : Cut) (full : FullCut m) (eight : length (m .counts) ≡ 8) (marks 
     pub walked-steps : StepsBack (m .n) counts strides r
     walked-steps = rw (s, t .ranked) (steps-back m full eight counts (t .cut))
 
-    pub walked-found : (p : ℕ) → p ≡ first (leadsBack marks counts strides r) (m .n) → p < m .n → at strides p ≤ r
+    -- a place that was found has one
+    pub walked-found : (p : ℕ) → p ≡ first (leadsBack marks counts strides r) (m .n) → p < m .n → (0 < at counts p) × (at strides p ≤ r)
     walked-found p e h =
         let f : p ≡ first (leadsBack marks counts (stridesOf m) (rank (countsOf m) (take (m .n) counts))) (m .n) = rw (s, t .ranked) at e in
-        walked-steps p h (found-pos m full eight counts (t .cut) marks p f h) .1
+        let g = found-pos m full eight counts (t .cut) marks p f h in
+        (g, walked-steps p h g .1)
 
   -- one step back
-  pub walked-more : (path counts : List ℕ) (r j p : ℕ) → Walked (countsOf m) marks room events (m .n) path counts r (j + 1) → events ≤ length room
-      → p ≡ first (leadsBack marks counts (stridesOf m) r) (m .n)
-      → Walked (countsOf m) marks room events (m .n) (set path j (p + 1)) (back p counts) (cond (ltb p (m .n)) (r - at (stridesOf m) p) r) j
-  walked-more path counts r j p t g e =
+  pub walked-more : (path counts next : List ℕ) (r j p : ℕ) → Walked (countsOf m) marks room events (m .n) path counts r (j + 1) → events ≤ length room
+      → p ≡ first (leadsBack marks counts (stridesOf m) r) (m .n) → next ≡ cond (ltb p (m .n)) (back p counts) counts
+      → Walked (countsOf m) marks room events (m .n) (set path j (p + 1)) next (cond (ltb p (m .n)) (r - at (stridesOf m) p) r) j
+  walked-more path counts next r j p t g e d =
       let f : p ≡ first (leadsBack marks counts (stridesOf m) (rank (countsOf m) (take (m .n) counts))) (m .n) = rw (t .ranked) at e in
+      let stepped : take (m .n) next ≡ take (m .n) (back p counts) = rw d (take-stepped (m .n) p counts) in
       record {
         place = omega (arith, t .place);
         length = simp length-set (t .length);
-        eight = length-back p counts ∙ t .eight;
-        cut = rw (take-back (m .n) p counts) (within-back (countsOf m) _ p (t .cut));
-        ranked = rw (t .ranked) (rank-stepped m full eight counts (t .cut) marks p f);
+        eight = rw d (length-stepped (ltb p (m .n)) p counts) ∙ t .eight;
+        cut = rw (stepped, take-back (m .n) p counts) (within-back (countsOf m) _ p (t .cut));
+        ranked = rw (stepped, t .ranked) (rank-stepped m full eight counts (t .cut) marks p f);
         way =
             t .way
             ∙ rw
-            (slice-more path j events (p + 1) (omega (arith, t .place)) (omega (arith, t .length)), wayTo-more m full eight counts (t .cut) marks j p f, add-one p)
+            (stepped, slice-more path j events (p + 1) (omega (arith, t .place)) (omega (arith, t .length)), wayTo-more m full eight counts (t .cut) marks j p f, add-one p)
             (append-assoc (wayTo (countsOf m) marks j (take (m .n) (back p counts))) (suc p ∷ []) (slice (j + 1) events path));
         rest = drop-set-lt events path j (p + 1) (omega (arith, t .place)) ∙ t .rest;
       }

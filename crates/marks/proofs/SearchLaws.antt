@@ -13,7 +13,7 @@ use lib.Dec.{leb, ltb}
 use lib.ListN.{length, take}
 use borrow.Author.Tests.{leb-true, le-leb}
 use Rattle.cuts.specs.Below.{every, firstFrom, first, any, sumTo}
-use Rattle.cuts.specs.Cut.{at, back}
+use Rattle.cuts.specs.Cut.{back}
 use Rattle.cuts.proofs.BelowLaws.{and-true, last-or-below, sumTo-first, sumTo-same, every-true, true-every, first-is, first-le}
 use Rattle.marks.specs.Rows.{mostTo}
 
@@ -102,12 +102,6 @@ pub back-beyond : (p : ℕ) (c : List ℕ) → length c ≤ p → back p c ≡ c
 back-beyond p [] h = refl
 back-beyond zero (x ∷ c) h = absurd (not-suc-le-zero h)
 back-beyond (suc p) (x ∷ c) h = ap {B = List ℕ} (λ r. x ∷ r) (back-beyond p c (le-of-suc-le-suc h))
-
--- .. nor does one where the count is 0
-pub back-none : (p : ℕ) (c : List ℕ) → at c p < 1 → back p c ≡ c
-back-none p [] h = refl
-back-none zero (x ∷ c) h = ap {B = List ℕ} (λ y. y ∷ c) (omega arith)
-back-none (suc p) (x ∷ c) h = ap {B = List ℕ} (λ r. x ∷ r) (back-none p c h)
 
 -- the first n counts after a step back
 pub take-back : (n p : ℕ) (c : List ℕ) → take n (back p c) ≡ back p (take n c)

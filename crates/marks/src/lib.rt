@@ -435,38 +435,21 @@ fn walk(full: Cut, marks: &[u8], path: &mut [u8], size: usize) -> bool
         let p = first_back(marks, &counts, &strides, r, n);
         k -= 1;
         path[k] = (p + 1) as u8;
-        r = rank_back(&strides, p, r, n);
-        let next = count_back(counts, p);
-        counts = next;
+        r = step_back(&mut counts, &strides, p, r, n);
     }
     false
 }
 
-// The rank after a step back of the station at place p, the same where there is no such station.
-fn rank_back(strides: &[usize], p: usize, r: usize, n: usize) -> usize
-    requires { ⌜ (n ≤ length (now strides)) × (p < n → at (now strides) p ≤ r) ⌝ }
-    ensures { λ b. ⌜ b ≡ cond (ltb p n) (r - at (now (strides .entry)) p) r ⌝ }
+// A step back of the station at place p from the cut with these counts and rank r: the rank after it. Where there is no such station none is taken.
+fn step_back(counts: &mut [u16], strides: &[usize], p: usize, r: usize, n: usize) -> usize
+    requires { ⌜ (n ≤ length (now counts)) × (n ≤ length (now strides)) × (p < n → (0 < at (now counts) p) × (at (now strides) p ≤ r)) ⌝ }
+    ensures { λ b. ⌜ (b ≡ cond (ltb p n) (r - at (now (strides .entry)) p) r) × (now (counts .exit) ≡ cond (ltb p n) (back p (now (counts .entry))) (now (counts .entry))) ⌝ }
 {
     if n <= p {
         return r;
     }
+    counts[p] = counts[p] - 1;
     r - strides[p]
-}
-
-// The counts after a step back of the station at place p.
-fn count_back(counts: [u16; 8], p: usize) -> [u16; 8]
-    ensures { λ r. ⌜ r ≡ back p counts ⌝ }
-{
-    if 8 <= p {
-        return counts;
-    }
-    let mut next = counts;
-    let count = counts[p];
-    if count < 1 {
-        return counts;
-    }
-    next[p] = count - 1;
-    next
 }
 
 // Whether a sum lies from least to most.

@@ -86,34 +86,35 @@ slice-write-path c =
     let loop = c .before .before .before .before .loop in
     omega (arith, loop .inv .place, loop .inv .length, c .before .before .before .before .before .events .ensures ∙ eventsOf-full _ (start .pre .0), start .pre .4)
 
-slice-aggregate-rank-back : tie.Need-slice-aggregate-rank-back Inv-loop μ-loop
-slice-aggregate-rank-back c = sym (ap length (c .before .before .before .before .before .before .before .before .strides-of .ensures) ∙ length-stridesOf _ (c .before .before .before .before .before .before .before .before .before .before .before .before .before .before .pre .0))
+slice-aggregate-step-back : tie.Need-slice-aggregate-step-back Inv-loop μ-loop
+slice-aggregate-step-back c = sym (c .before .before .before .before .before .loop .inv .eight)
 
-rank-back-requires : tie.Need-rank-back-requires Inv-loop μ-loop
-rank-back-requires c κs =
-    let start = c .before .before .before .before .before .before .before .before .before .before .before .before .before .before in
-    let strides-of = c .before .before .before .before .before .before .before .before .strides-of in
-    let loop = c .before .before .before .before .before .loop in
+slice-aggregate-step-back-2 : tie.Need-slice-aggregate-step-back-2 Inv-loop μ-loop
+slice-aggregate-step-back-2 c = sym (ap length (c .before .before .before .before .before .before .before .before .before .strides-of .ensures) ∙ length-stridesOf _ (c .before .before .before .before .before .before .before .before .before .before .before .before .before .before .before .pre .0))
+
+step-back-requires : tie.Need-step-back-requires Inv-loop μ-loop
+step-back-requires c κs =
+    let start = c .before .before .before .before .before .before .before .before .before .before .before .before .before .before .before in
+    let strides-of = c .before .before .before .before .before .before .before .before .before .strides-of in
+    let loop = c .before .before .before .before .before .before .loop in
     let l = eight-counts (start .args .full) _ (start .good .0) in (
+      omega (arith, loop .inv .eight, start .pre .0 .most-eight),
       omega (arith, ap length (strides-of .ensures), length-stridesOf (start .args .full) (start .pre .0), start .pre .0 .most-eight),
-      walked-found _ (start .pre .0) l _ _ _ _ _ _ _ (loop .inv) _ (strides-of .ensures) _ (c .before .first-back .ensures .0),
+      walked-found _ (start .pre .0) l _ _ _ _ _ _ _ (loop .inv) _ (strides-of .ensures) _ (c .before .before .first-back .ensures .0),
     )
-
-count-back-requires : tie.Need-count-back-requires Inv-loop μ-loop
-count-back-requires c κs = tt
 
 loop-less : tie.Need-loop-less Inv-loop μ-loop
 loop-less c = omega arith
 
 loop-again : tie.Need-loop-again Inv-loop μ-loop
 loop-again c =
-    let start = c .before .before .before .before .before .before .before .before .before .before .before .before .before .before .before .before in
-    let strides-of = c .before .before .before .before .before .before .before .before .before .before .strides-of in
-    let loop = c .before .before .before .before .before .before .before .loop in
+    let start = c .before .before .before .before .before .before .before .before .before .before .before .before .before .before .before .before .before in
+    let strides-of = c .before .before .before .before .before .before .before .before .before .before .before .strides-of in
+    let loop = c .before .before .before .before .before .before .before .before .loop in
     let l = eight-counts (start .args .full) _ (start .good .0) in
     let e : loop .k ≡ loop .k - 1 + 1 = omega arith in
-    rw (c .count-back .ensures, c .before .rank-back .ensures, strides-of .ensures)
-    (walked-more _ (start .pre .0) l _ _ _ _ _ _ _ _ (rw e at (loop .inv)) (rw (c .before .before .before .before .before .before .before .before .events .ensures ∙ eventsOf-full _ (start .pre .0)) (start .pre .4)) (rw (strides-of .ensures) at (c .before .before .before .first-back .ensures .0)))
+    rw (c .before .step-back .ensures .0, strides-of .ensures)
+    (walked-more _ (start .pre .0) l _ _ _ _ _ _ _ _ _ (rw e at (loop .inv)) (rw (c .before .before .before .before .before .before .before .before .before .events .ensures ∙ eventsOf-full _ (start .pre .0)) (start .pre .4)) (rw (strides-of .ensures) at (c .before .before .before .before .first-back .ensures .0)) (c .before .step-back .ensures .1))
 
 same-length : tie.Need-same-length Inv-loop μ-loop
 same-length c = c .before .loop .inv .length
@@ -144,9 +145,9 @@ walk-spec =
     add-path
     cast-path
     slice-write-path
-    slice-aggregate-rank-back
-    rank-back-requires
-    count-back-requires
+    slice-aggregate-step-back
+    slice-aggregate-step-back-2
+    step-back-requires
     loop-less
     loop-again
     same-length
