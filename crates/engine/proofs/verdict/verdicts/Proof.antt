@@ -1,13 +1,13 @@
 -- The tables are laid of the recording and the condition, and the box is settled from them: `computed` says that what is settled is the recording's.
 use mathlib.Core.Path.{refl}
-use borrow.Author.Needs.{needs}
+use native.Mathlib.Omega.{arith}
 use Rattle.engine.proofs.FullLaws.{short-full}
 use Rattle.engine.proofs.VerdictLaws.{computed}
 use Rattle.engine.proofs.verdict.verdicts.Statement.{statement}
 use Rattle.engine.proofs.verdict.verdicts.Tie as tie
 
 slice-aggregate-lay-needs : tie.Need-slice-aggregate-lay-needs
-slice-aggregate-lay-needs c = search needs
+slice-aggregate-lay-needs c = omega arith
 
 lay-needs-requires : tie.Need-lay-needs-requires
 lay-needs-requires c κs =
@@ -15,10 +15,10 @@ lay-needs-requires c κs =
     (short-full _ _ (z .accepts) (z .full-is), refl)
 
 starts-requires : tie.Need-starts-requires
-starts-requires c κs = search needs
+starts-requires c κs = tt
 
 slice-aggregate-lay-weights : tie.Need-slice-aggregate-lay-weights
-slice-aggregate-lay-weights c = search needs
+slice-aggregate-lay-weights c = omega arith
 
 lay-weights-requires : tie.Need-lay-weights-requires
 lay-weights-requires c κs =
@@ -26,10 +26,10 @@ lay-weights-requires c κs =
     (short-full _ _ (z .accepts) (z .full-is), refl)
 
 limits-of-requires : tie.Need-limits-of-requires
-limits-of-requires c κs = search needs
+limits-of-requires c κs = tt
 
 shifted-requires : tie.Need-shifted-requires
-shifted-requires c κs = search needs
+shifted-requires c κs = tt
 
 bases-requires : tie.Need-bases-requires
 bases-requires c κs =
@@ -37,19 +37,19 @@ bases-requires c κs =
     short-full _ _ (z .accepts) (z .full-is)
 
 slice-aggregate-settle : tie.Need-slice-aggregate-settle
-slice-aggregate-settle c = search needs
+slice-aggregate-settle c = omega arith
 
 slice-aggregate-settle-2 : tie.Need-slice-aggregate-settle-2
-slice-aggregate-settle-2 c = search needs
+slice-aggregate-settle-2 c = omega arith
 
 settle-requires : tie.Need-settle-requires
-settle-requires c κs = search needs
+settle-requires c κs = tt
 
 same-length : tie.Need-same-length
-same-length c = search needs
+same-length c = omega arith
 
 same-length-2 : tie.Need-same-length-2
-same-length-2 c = search needs
+same-length-2 c = omega arith
 
 returns : tie.Need-returns
 returns c =
