@@ -52,7 +52,7 @@ pub not-third : (_≡_ {A = ℕ} 2 0 ⊎ _≡_ {A = ℕ} 2 1) → ⊥
 not-third (inl h) = absurd (omega arith)
 not-third (inr h) = absurd (omega arith)
 
-pub accepts : (s stamps levels : List ℕ) (d : Decoded) (stamps′ levels′ : List ℕ) → Decodes lead8 width8 s stamps levels d stamps′ levels′ → ((x : Refusal) → d ≡ Decoded.Refused x → ⊥)
+accepts : (s stamps levels : List ℕ) (d : Decoded) (stamps′ levels′ : List ℕ) → Decodes lead8 width8 s stamps levels d stamps′ levels′ → ((x : Refusal) → d ≡ Decoded.Refused x → ⊥)
     → checkedOf lead8 width8 s ≡ Checked.Accepted
 accepts s stamps levels d stamps′ levels′ decodes told = decoded-accepted (checkedOf lead8 width8 s) _ (λ x e. told x (decodes .answer ∙ e))
 
@@ -71,12 +71,12 @@ by-refusal : (job marks path : List ℕ) (x : Refusal) (r : Reply) → r ≡ ref
 by-refusal job marks path x r e h = rw e (refused h)
 
 -- 1 or 8
-pub refused-condition : (job marks path : List ℕ) (read : Reading) (x : Refusal) (r : Reply) → read ≡ readOf job → (read .refused ≡ 0 → ⊥) → x ≡ wholly (read .refused) → r ≡ refusedBy x
+pub refused-condition : (job marks path : List ℕ) (read : Reading) (r : Reply) → read ≡ readOf job → (read .refused ≡ 0 → ⊥) → r ≡ refusedBy (wholly (read .refused))
     → Judged job marks path r marks path
 unfolding checkedJob
-refused-condition job marks path read x r e h f g =
+refused-condition job marks path read r e h g =
     let k : read .refused ≡ refusedOf job = ap (λ (y : Reading). y .refused) e ∙ read-refused job in
-    by-refusal job marks path x r g (rw (← k, atWhole-fault (read .refused) h, f) refl)
+    by-refusal job marks path (wholly (read .refused)) r g (rw (← k, atWhole-fault (read .refused) h) refl)
 
 module _ (job marks path : List ℕ) (read : Reading) (read-is : read ≡ readOf job) (none : read .refused ≡ 0)
     (s stamps levels : List ℕ) (d : Decoded) (stamps′ levels′ : List ℕ) (s-is : s ≡ partOf job) (decodes : Decodes lead8 width8 s stamps levels d stamps′ levels′) where
@@ -103,8 +103,8 @@ module _ (job marks path : List ℕ) (read : Reading) (read-is : read ≡ readOf
     checked-is = rw (unrefused job read read-is none, atWhole-0, rw s-is at ok, ← fault-is) refl
 
     -- 9 to 12
-    pub refused-room : (x : Refusal) (r : Reply) → (k ≡ 0 → ⊥) → x ≡ wholly k → r ≡ refusedBy x → Judged job marks path r marks path
-    refused-room x r h f g = by-refusal job marks path x r g (checked-is ∙ atWhole-fault k h ∙ ap Checked.Refused (sym f))
+    pub refused-room : (r : Reply) → (k ≡ 0 → ⊥) → r ≡ refusedBy (wholly k) → Judged job marks path r marks path
+    refused-room r h g = by-refusal job marks path (wholly k) r g (checked-is ∙ atWhole-fault k h)
 
     suffices : k ≡ 0 → Suffices (C job) (length (m job)) (box (m job)) (total (m job)) (length marks) (length path)
     suffices h = no-fault _ _ _ _ _ _ (sym fault-is ∙ h)

@@ -24,9 +24,8 @@ pub fn judge(job: &[u8], marks: &mut [u8], path: &mut [u8]) -> Reply
     ensures { λ r. ⌜ Judged (now (job .entry)) (now (marks .entry)) (now (path .entry)) r (now (marks .exit)) (now (path .exit)) ⌝ }
 {
     let read = condition::read(job);
-    let k = read.refused;
-    if k != 0 {
-        return refused(whole(k));
+    if read.refused != 0 {
+        return refused_wholly(read.refused);
     }
     let c = read.condition;
     let s = &job[38..];
@@ -39,7 +38,7 @@ pub fn judge(job: &[u8], marks: &mut [u8], path: &mut [u8]) -> Reply
     let full = recording::full_cut(s);
     let fault = rooms::fault(c, full, marks.len(), path.len());
     if fault != 0 {
-        return refused(whole(fault));
+        return refused_wholly(fault);
     }
     verdict::verdicts(c, s, full, &stamps, &levels, marks, path)
 }
@@ -59,13 +58,13 @@ fn refused(x: Refusal) -> Reply
     }
 }
 
-// A refusal that is about no record.
-fn whole(number: u8) -> Refusal
-    ensures { λ r. ⌜ r ≡ wholly number ⌝ }
+// A refusal that is about no record, and nothing beside it.
+fn refused_wholly(number: u8) -> Reply
+    ensures { λ r. ⌜ r ≡ refusedBy (wholly number) ⌝ }
 {
-    Refusal {
+    refused(Refusal {
         number: number,
         station: 0,
         event: 0,
-    }
+    })
 }

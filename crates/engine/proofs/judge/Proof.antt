@@ -8,22 +8,19 @@ use Rattle.engine.proofs.judge.Tie as tie
 read-requires : tie.Need-read-requires
 read-requires c κs = search needs
 
-whole-requires : tie.Need-whole-requires
-whole-requires c κs = search needs
-
-refused-requires : tie.Need-refused-requires
-refused-requires c κs = search needs
+refused-wholly-requires : tie.Need-refused-wholly-requires
+refused-wholly-requires c κs = search needs
 
 returns : tie.Need-returns
 returns c =
-    let T = c .before .before in
-    refused-condition _ _ _ _ _ _ (T .before .read .ensures) (T .if1 .taken) (c .before .whole .ensures) (c .refused .ensures)
+    let T = c .before in
+    refused-condition _ _ _ _ _ (T .before .before .read .ensures) (T .if1 .taken) (c .refused-wholly .ensures)
 
 sub-s : tie.Need-sub-s
-sub-s c = job-long _ _ (c .before .before .read .ensures) (c .before .if1 .left)
+sub-s c = job-long _ _ (c .before .before .before .read .ensures) (c .before .if1 .left)
 
 part-s-start : tie.Need-part-s-start
-part-s-start c = job-long _ _ (c .before .before .read .ensures) (c .before .if1 .left)
+part-s-start c = job-long _ _ (c .before .before .before .read .ensures) (c .before .if1 .left)
 
 part-s-end : tie.Need-part-s-end
 part-s-end c = search needs
@@ -40,14 +37,14 @@ decode-requires c κs = search needs
 enum-known-d : tie.Need-enum-known-d
 enum-known-d c = search needs
 
-refused-requires-2 : tie.Need-refused-requires-2
-refused-requires-2 c κs = search needs
+refused-requires : tie.Need-refused-requires
+refused-requires c κs = search needs
 
 returns-2 : tie.Need-returns-2
 returns-2 c =
     let D = c .before .before .before .before .before .before in
     let E = D .before .before .before .before .before in
-    refused-recording _ _ _ _ (E .before .read .ensures) (E .if1 .left) _ _ _ _ _ _ (part-is _) (D .decode .ensures) _ _ (c .before .before .d .given .1) (c .refused2 .ensures)
+    refused-recording _ _ _ _ (E .before .before .read .ensures) (E .if1 .left) _ _ _ _ _ _ (part-is _) (D .decode .ensures) _ _ (c .before .before .d .given .1) (c .refused .ensures)
 
 full-cut-requires : tie.Need-full-cut-requires
 full-cut-requires c κs = search needs
@@ -55,20 +52,17 @@ full-cut-requires c κs = search needs
 fault-requires : tie.Need-fault-requires
 fault-requires c κs = search needs
 
-whole-requires-2 : tie.Need-whole-requires-2
-whole-requires-2 c κs = search needs
-
-refused-requires-3 : tie.Need-refused-requires-3
-refused-requires-3 c κs = search needs
+refused-wholly-requires-2 : tie.Need-refused-wholly-requires-2
+refused-wholly-requires-2 c κs = search needs
 
 returns-3 : tie.Need-returns-3
 returns-3 c =
-    let T = c .before .before in
+    let T = c .before in
     let K = T .before in
     let M = K .before .before in
     let D = M .before .before .before in
     let E = D .before .before .before .before .before in
-    refused-room _ _ _ _ (E .before .read .ensures) (E .if1 .left) _ _ _ _ _ _ (part-is _) (D .decode .ensures) (λ x e. not-third (rw e at (M .match .keys2))) _ (K .before .full-cut .ensures) _ (K .fault .ensures) _ _ (T .if2 .taken) (c .before .whole2 .ensures) (c .refused3 .ensures)
+    refused-room _ _ _ _ (E .before .before .read .ensures) (E .if1 .left) _ _ _ _ _ _ (part-is _) (D .decode .ensures) (λ x e. not-third (rw e at (M .match .keys2))) _ (K .before .full-cut .ensures) _ (K .fault .ensures) _ (T .if2 .taken) (c .refused-wholly2 .ensures)
 
 slice-aggregate-verdicts : tie.Need-slice-aggregate-verdicts
 slice-aggregate-verdicts c = search needs
@@ -83,8 +77,8 @@ verdicts-requires c κs =
     let M = K .before .before in
     let D = M .before .before .before in
     let E = D .before .before .before .before .before in
-    let a = E .before .before .before .before .before .args in
-    settled _ (a .marks .now) (a .path .now) _ (E .before .read .ensures) (E .if1 .left) _ _ _ _ _ _ (part-is _) (D .decode .ensures) (λ x e. not-third (rw e at (M .match .keys2))) _ (K .before .full-cut .ensures) _ (K .fault .ensures) (T .if2 .left) refl refl
+    let a = E .before .before .before .before .before .before .args in
+    settled _ (a .marks .now) (a .path .now) _ (E .before .before .read .ensures) (E .if1 .left) _ _ _ _ _ _ (part-is _) (D .decode .ensures) (λ x e. not-third (rw e at (M .match .keys2))) _ (K .before .full-cut .ensures) _ (K .fault .ensures) (T .if2 .left) refl refl
 
 same-length : tie.Need-same-length
 same-length c = search needs
@@ -100,15 +94,14 @@ returns-4 c =
     let M = K .before .before in
     let D = M .before .before .before in
     let E = D .before .before .before .before .before in
-    judged _ _ _ _ (E .before .read .ensures) (E .if1 .left) _ _ _ _ _ _ (part-is _) (D .decode .ensures) (λ x e. not-third (rw e at (M .match .keys2))) _ (K .before .full-cut .ensures) _ (K .fault .ensures) _ _ _ (T .if2 .left) (W .verdicts .ensures)
+    judged _ _ _ _ (E .before .before .read .ensures) (E .if1 .left) _ _ _ _ _ _ (part-is _) (D .decode .ensures) (λ x e. not-third (rw e at (M .match .keys2))) _ (K .before .full-cut .ensures) _ (K .fault .ensures) _ _ _ (T .if2 .left) (W .verdicts .ensures)
 
 pub judge-spec : {M : Type 1} → statement M
 judge-spec =
     tie.close
     (tie.spec
     read-requires
-    whole-requires
-    refused-requires
+    refused-wholly-requires
     returns
     sub-s
     part-s-start
@@ -117,12 +110,11 @@ judge-spec =
     slice-aggregate-decode-2
     decode-requires
     enum-known-d
-    refused-requires-2
+    refused-requires
     returns-2
     full-cut-requires
     fault-requires
-    whole-requires-2
-    refused-requires-3
+    refused-wholly-requires-2
     returns-3
     slice-aggregate-verdicts
     slice-aggregate-verdicts-2
