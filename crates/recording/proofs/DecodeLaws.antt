@@ -1,7 +1,7 @@
 -- Laws of the recording laid out flat. In order: the counts of eight stations; the records before each station's; the start levels; the table of
--- stamps, by a number's place and by record and station; rooms that have the tables, and rooms that do not. Assumes nothing.
+-- stamps, by a number's place and by record and station; rooms that have the tables. Assumes nothing.
 use mathlib.Core.Path.{_≡_, refl, sym, ap, ap₂, _∙_}
-use mathlib.Core.Bool.{Bool, true, false, _&&_, cond}
+use mathlib.Core.Bool.{Bool, true, _&&_, cond}
 use mathlib.Core.List.{List, _++_}
 use Prim.Native.Nat.{ℕ, zero, suc, _+_, _-_, _*_, _/_, _%_, _≤_, _<_}
 use native.Mathlib.Nat.{add-zero, add-suc, le-antisymm}
@@ -12,7 +12,6 @@ use lib.ListN.{length, take, drop}
 use lib.Seq.{ext-getD, getD-take, length-take-le}
 use borrow.Author.Tests.{lt-ltb, le-ltb, le-leb, leb-true}
 use Rattle.bits.specs.Bits.{field}
-use Rattle.cuts.proofs.ReplyLaws.{refuted}
 use Rattle.levels.specs.Level.{excessOf}
 use Rattle.cuts.specs.Below.{sumTo, tab}
 use Rattle.cuts.specs.Cut.{at}
@@ -113,36 +112,17 @@ module _ (n k : ℕ) (f : ℕ → ℕ) (room : List ℕ) where
   abbrev front : List ℕ
   front = cond fits (tab k f ++ drop k room) room
 
-  front-none : (n ≤ 8 → k ≤ length room → ⊥) → (false ≡ fits) × (room ≡ front)
-  front-none h =
-      let e : fits ≡ false = refuted fits (λ t. let (a, b) = fits-true n k (length room) t in h a b) in
-      (sym e, rw e refl)
+  front-some : n ≤ 8 → k ≤ length room → tab k f ++ drop k room ≡ front
+  front-some h l = rw (le-leb n 8 h, le-leb k (length room) l) refl
 
-  front-some : n ≤ 8 → k ≤ length room → (after : List ℕ) → after ≡ tab k f ++ drop k room → (true ≡ fits) × (after ≡ front)
-  front-some h l after a =
-      let e : fits ≡ true = simp (le-leb n 8 h, le-leb k (length room) l) in
-      (sym e, rw e a)
-
-module _ (lead w : ℕ) (s : List ℕ) (n : ℕ) (room : List ℕ) (e : n ≡ nAt lead s) where
-  pub stamps-none : (n ≤ 8 → 8 * firstAt lead w s n ≤ length room → ⊥) → (false ≡ stampsFit lead w s (length room)) × (room ≡ stampsIn lead w s room)
+module _ (lead w : ℕ) (s room : List ℕ) (h : nAt lead s ≤ 8) (total : ℕ) (e : total ≡ firstAt lead w s (nAt lead s)) where
+  pub stamps-some : 8 * total ≤ length room → tab (8 * total) (stampCell lead w s (nAt lead s)) ++ drop (8 * total) room ≡ stampsIn lead w s room
   unfolding stampsFit stampsIn
-  stamps-none h = rw (← e) (front-none n (8 * firstAt lead w s n) (stampCell lead w s n) room h)
+  stamps-some k = rw e (front-some (nAt lead s) (8 * firstAt lead w s (nAt lead s)) (stampCell lead w s (nAt lead s)) room h (rw e at k))
 
-  pub stamps-some : (total : ℕ) → total ≡ firstAt lead w s n → n ≤ 8 → 8 * total ≤ length room
-      → (after : List ℕ) → after ≡ tab (8 * total) (stampCell lead w s n) ++ drop (8 * total) room
-      → (true ≡ stampsFit lead w s (length room)) × (after ≡ stampsIn lead w s room)
-  unfolding stampsFit stampsIn
-  stamps-some total t h k after a = rw (← e) (front-some n (8 * firstAt lead w s n) (stampCell lead w s n) room h (rw t at k) after (rw t at a))
-
-  pub levels-none : (n ≤ 8 → firstAt lead w s n ≤ length room → ⊥) → (false ≡ levelsFit lead w s (length room)) × (room ≡ levelsIn lead w s room)
+  pub levels-some : total ≤ length room → tab total (levelCell lead w s (nAt lead s)) ++ drop total room ≡ levelsIn lead w s room
   unfolding levelsFit levelsIn
-  levels-none h = rw (← e) (front-none n (firstAt lead w s n) (levelCell lead w s n) room h)
-
-  pub levels-some : (total : ℕ) → total ≡ firstAt lead w s n → n ≤ 8 → total ≤ length room
-      → (after : List ℕ) → after ≡ tab total (levelCell lead w s n) ++ drop total room
-      → (true ≡ levelsFit lead w s (length room)) × (after ≡ levelsIn lead w s room)
-  unfolding levelsFit levelsIn
-  levels-some total t h k after a = rw (← e) (front-some n (firstAt lead w s n) (levelCell lead w s n) room h (rw t at k) after (rw t at a))
+  levels-some k = rw e (front-some (nAt lead s) (firstAt lead w s (nAt lead s)) (levelCell lead w s (nAt lead s)) room h (rw e at k))
 
 -- the first k numbers of a list, one by one
 pub tab-at-take : (l : List ℕ) (k : ℕ) → k ≤ length l → tab k (at l) ≡ take k l

@@ -55,8 +55,8 @@ module _ (lead w : ℕ) (s a b rows : List ℕ) (v : ℕ) (h : CheckedRows lead 
           let t : take (8 * total) rows ≡ tab (8 * total) (stampCell lead w s (nAt lead s)) = rw et (r .table) in
           record {
             answer = rw (reply-is, fit-is, not-false fit (sym es ∙ z)) refl;
-            stamps-after = stamps-some lead w s (nAt lead s) a refl total et (r .n-most) la a′ (ea ∙ ap (λ (l : List ℕ). l ++ drop (8 * total) a) t) .1;
-            levels-after = levels-some lead w s (nAt lead s) b refl total et (r .n-most) lb b′ eb .1;
+            stamps-after = ea ∙ ap (λ (l : List ℕ). l ++ drop (8 * total) a) t ∙ stamps-some lead w s a (r .n-most) total et la;
+            levels-after = eb ∙ levels-some lead w s b (r .n-most) total et lb;
           }
 
 -- two permitted replies, with their rooms, are equal

@@ -1,6 +1,6 @@
 -- Where the fields of a recording stand. In order: how many bits the parts of stations and records take, where counts have at most 9 bits; what is read
 -- at a place; how many records stand before a station's, and where its own stand. Assumes nothing.
-use mathlib.Core.Path.{_≡_, refl, ap, _∙_}
+use mathlib.Core.Path.{_≡_, ap, _∙_}
 use mathlib.Core.List.{List}
 use Prim.Native.Nat.{ℕ, suc, _+_, _-_, _*_, _^_, _≤_, _<_}
 use native.Mathlib.Nat.{mul-le-mul, lt-of-lt-of-le}
@@ -8,7 +8,6 @@ use native.Mathlib.Omega.{arith}
 use lib.Pow.{pow-mono}
 use Rattle.bits.specs.Bits.{field, peeked}
 use Rattle.bits.proofs.BitsLaws.{field-lt, peeked-field}
-use Rattle.cuts.specs.Below.{sumTo}
 use Rattle.cuts.proofs.BelowLaws.{sumTo-more}
 use Rattle.recording.specs.Form.{mAt, firstAt}
 use Rattle.recording.proofs.SumLaws.{sumTo-grows, sumTo-part, sumTo-most}
@@ -37,10 +36,6 @@ module _ (lead w : ℕ) (s : List ℕ) where
   pub mAt-lt : (p : ℕ) → w ≤ 9 → mAt lead w s p < 512
   unfolding mAt
   mAt-lt p h = lt-of-lt-of-le (field-lt s _ w) (pow-mono h)
-
-  pub firstAt-zero : firstAt lead w s 0 ≡ 0
-  unfolding firstAt sumTo
-  firstAt-zero = refl
 
   pub firstAt-more : (p : ℕ) → firstAt lead w s (p + 1) ≡ firstAt lead w s p + mAt lead w s p
   unfolding firstAt

@@ -1,5 +1,7 @@
 -- The checks come first; where they accept, the table of stamps that they laid is copied and that of the levels laid, if both rooms have them.
+use Prim.Native.Nat.{ℕ}
 use native.Mathlib.Omega.{arith}
+use lib.ListN.{length-replicate}
 use Rattle.recording.proofs.DecodedLaws.{decode-refused, decode-short, decode-done, fits-read}
 use borrow.Author.Needs.{needs}
 use Rattle.recording.proofs.decode.Statement.{statement}
@@ -9,7 +11,7 @@ slice-aggregate-check-rows : tie.Need-slice-aggregate-check-rows
 slice-aggregate-check-rows c = search needs
 
 check-rows-requires : tie.Need-check-rows-requires
-check-rows-requires c κs = search needs
+check-rows-requires c κs = (omega arith, omega arith, omega arith, omega arith, length-replicate {A = ℕ} 32704 0)
 
 refusal-requires : tie.Need-refusal-requires
 refusal-requires c κs = search needs
@@ -21,7 +23,7 @@ total-requires : tie.Need-total-requires
 total-requires c κs = (omega arith, omega arith, omega arith, c .before .before .check-rows .ensures .laid (c .if1 .left) .n-most)
 
 short-requires : tie.Need-short-requires
-short-requires c κs = search needs
+short-requires c κs = c .total .ensures .1
 
 returns-2 : tie.Need-returns-2
 returns-2 c =

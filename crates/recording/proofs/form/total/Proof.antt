@@ -1,5 +1,4 @@
 -- T is the last of the nine.
-use native.Mathlib.Omega.{arith}
 use Rattle.recording.proofs.WholeLaws.{total-read}
 use borrow.Author.Needs.{needs}
 use Rattle.recording.proofs.form.total.Statement.{statement}

@@ -1,6 +1,5 @@
 -- The whole is tested first; where it has no fault n is 1 to 8, the table of stamps is laid, and the checks of the records follow.
 use mathlib.Core.Path.{sym, _∙_}
-use native.Mathlib.Omega.{arith}
 use Rattle.recording.proofs.WholeLaws.{formFault-lt, formFault-stations, checkedOf-fault, checkedOf-records}
 use Rattle.recording.proofs.FaultLaws.{checkedBy-whole}
 use borrow.Author.Needs.{needs}

@@ -50,10 +50,10 @@ record-bit-requires c κs =
     (h, d, laid .n-most, omega (arith, record-small laid (W .before .before .before .args .p) (c .before .loop .e) d hp (omega (arith, W .wide .ensures .0, m-laid laid _ hp))))
 
 origin-requires : tie.Need-origin-requires Inv-loop μ-loop
-origin-requires c κs = search needs
+origin-requires c κs = c .record-bit .ensures .1
 
 number-requires : tie.Need-number-requires Inv-loop μ-loop
-number-requires c κs = search needs
+number-requires c κs = (c .before .before .before .before .before .before .before .pre .2, c .before .record-bit .ensures .1)
 
 message-fault-requires : tie.Need-message-fault-requires Inv-loop μ-loop
 message-fault-requires c κs = search needs
