@@ -1,9 +1,9 @@
 -- Laws of the condition's fields. In order: ends of a window; the kind; a window; what is refused with 8; the value read. Assumes nothing.
 use mathlib.Core.Path.{_≡_, refl, sym, ap, _∙_}
 use mathlib.Core.Bool as B
-use mathlib.Core.Bool.{Bool, true, false, _&&_, _||_, cond}
+use mathlib.Core.Bool.{Bool, true, false, _&&_, _||_, not, cond}
 use mathlib.Core.List.{List, _++_, append-nil}
-use Prim.Native.Nat.{ℕ, suc, _+_, _-_, _≤_, _<_}
+use Prim.Native.Nat.{ℕ, zero, suc, _+_, _-_, _≤_, _<_}
 use native.Mathlib.Nat.{le-antisymm, le-of-eq}
 use native.Mathlib.Decide.{decLt}
 use native.Mathlib.Numerals.{add-one}
@@ -19,9 +19,10 @@ use Rattle.levels.proofs.LevelLaws.{sub-pos, sub-eq, sub-le}
 use Rattle.cuts.proofs.BelowLaws.{and-true, and-false, length-tab}
 use Rattle.cuts.proofs.TabLaws.{front-more}
 use Rattle.cuts.proofs.ReplyLaws.{refuted}
-use Rattle.condition.specs.Condition.{boundOf, raisedOf, upright, zeros, kindAt, kAt, lowAt, highAt, kindOf, askedAt, windowLow, windowHigh, windowOk, conditionOk, conditionOf, refusedOf, readOf, noWindow, noCondition}
+use Rattle.condition.specs.Condition.{boundOf, raisedOf, upright, zeros, kindAt, kAt, lowAt, highAt, kindOf, askedAt, windowLow, windowHigh, windowOk, windowOf, conditionOk, conditionOf, refusedOf, readOf, noWindow, noCondition}
 use Rattle.condition.specs.declared.Kind.{Kind}
 use Rattle.condition.specs.declared.Window.{Window}
+use Rattle.condition.specs.declared.Reading.{Reading}
 
 -- tests of two numbers and of what is k above them
 pub leb-add : (a b k : ℕ) → leb (a + k) (b + k) ≡ leb a b
@@ -150,3 +151,11 @@ module _ (s : List ℕ) where
   pub readOf-good : refusedOf s ≡ 0 → readOf s ≡ record { refused = 0; condition = conditionOf s }
   unfolding readOf
   readOf-good e = rw e refl
+
+  -- the value as the code puts it together: its number, its kind and its windows
+  pub readOf-parts : (k : ℕ) (kind : Kind) (windows : List Window) → k ≡ refusedOf s → kind ≡ cond (not (eqb k 0)) Kind.Together (kindOf s (kindAt s))
+      → windows ≡ cond (not (eqb k 0)) (tab 8 (λ p. noWindow)) (tab 8 (windowOf s))
+      → _≡_ {A = Reading} (record { refused = k; condition = record { kind = kind; windows = windows } }) (readOf s)
+  unfolding conditionOf
+  readOf-parts zero kind windows e ek ew = rw (ek, ew) (sym (readOf-good (sym e)))
+  readOf-parts (suc n) kind windows e ek ew = rw (ek, ew, ne-eqb (suc n) 0 (λ z. omega arith)) (sym (readOf-refused n (sym e)))

@@ -5,14 +5,26 @@ ghost use Prim.Native.Nat.{_≤_, _<_, _^_};
 ghost use lib.Dec.{eqb};
 ghost use Rattle.bits.specs.Bits.{field};
 ghost use Rattle.cuts.specs.Below.{every, tab};
-ghost use Rattle.condition.specs.Condition.{kindAt, askedAt, windowOk, conditionOk, upright, zeros, raisedOf, kindOf, windowOf, noWindow, noCondition};
-use crate::Condition;
+ghost use Rattle.condition.specs.declared.Kind.{Kind};
+ghost use Rattle.condition.specs.Condition.{kindAt, askedAt, windowOk, conditionOk, upright, zeros, raisedOf, kindOf, windowOf, refusedOf, noWindow};
 use crate::Kind;
-use crate::Reading;
 use crate::Window;
 
+// The refusal number of the first 38 bytes, 0 if there is none.
+pub fn refusal(s: &[u8]) -> u8
+    ensures { λ r. ⌜ r ≡ refusedOf (now (s .entry)) ⌝ }
+{
+    if s.len() < 38 {
+        return 1;
+    }
+    if is_good(s) {
+        return 0;
+    }
+    8
+}
+
 // Whether the condition is not refused with 8.
-pub fn is_good(s: &[u8]) -> bool
+fn is_good(s: &[u8]) -> bool
     ensures { λ r. ⌜ r ≡ conditionOk (now (s .entry)) ⌝ }
 {
     let kind = field_at(s, 0, 2);
@@ -91,10 +103,13 @@ pub fn is_pair_good(used: bool, low: u16, high: u16) -> bool
     high == 0
 }
 
-// The kind with its own numbers.
-pub fn kind(s: &[u8]) -> Kind
-    ensures { λ r. ⌜ r ≡ kindOf (now (s .entry)) (kindAt (now (s .entry))) ⌝ }
+// The kind with its own numbers; Together beside a refusal.
+pub fn kind(s: &[u8], refused: bool) -> Kind
+    ensures { λ r. ⌜ r ≡ cond refused Kind.Together (kindOf (now (s .entry)) (kindAt (now (s .entry)))) ⌝ }
 {
+    if refused {
+        return Kind::Together;
+    }
     let number = field_at(s, 0, 2);
     match number {
         0 => Kind::Together,
@@ -103,11 +118,14 @@ pub fn kind(s: &[u8]) -> Kind
     }
 }
 
-// The eight windows.
-pub fn windows(s: &[u8]) -> [Window; 8]
-    ensures { λ r. ⌜ r ≡ tab 8 (windowOf (now (s .entry))) ⌝ }
+// The eight windows; none asked beside a refusal.
+pub fn windows(s: &[u8], refused: bool) -> [Window; 8]
+    ensures { λ r. ⌜ r ≡ cond refused (tab 8 (λ p. noWindow)) (tab 8 (windowOf (now (s .entry)))) ⌝ }
 {
     let mut w = [no_window(); 8];
+    if refused {
+        return w;
+    }
     let mut p: usize = 0;
     while p < 8 {
         w[p] = window(s, p);
@@ -125,19 +143,6 @@ pub fn window(s: &[u8], p: usize) -> Window
         asked: is_asked(s, p),
         low: raised(field_at(s, 48 + 32 * p, 16)),
         high: raised(field_at(s, 64 + 32 * p, 16)),
-    }
-}
-
-// A refusal, with nothing asked beside it.
-pub fn refused(number: u8) -> Reading
-    ensures { λ r. ⌜ r ≡ record { refused = number; condition = noCondition } ⌝ }
-{
-    Reading {
-        refused: number,
-        condition: Condition {
-            kind: Kind::Together,
-            windows: [no_window(); 8],
-        },
     }
 }
 

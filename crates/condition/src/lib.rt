@@ -45,16 +45,12 @@ pub struct Reading {
 pub fn read(s: &[u8]) -> Reading
     ensures { λ r. ⌜ r ≡ readOf (now (s .entry)) ⌝ }
 {
-    if s.len() < 38 {
-        return fields::refused(1);
-    }
-    if !fields::is_good(s) {
-        return fields::refused(8);
-    }
-    let kind = fields::kind(s);
-    let windows = fields::windows(s);
+    let number = fields::refusal(s);
+    let refused = number != 0;
+    let kind = fields::kind(s, refused);
+    let windows = fields::windows(s, refused);
     Reading {
-        refused: 0,
+        refused: number,
         condition: Condition { kind, windows },
     }
 }

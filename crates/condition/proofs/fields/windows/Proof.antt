@@ -1,4 +1,4 @@
--- After p turns the first p windows stand in front.
+-- Eight times the same window beside a refusal. Else after p turns the first p windows stand in front.
 use mathlib.Core.Path.{_≡_, refl, _∙_}
 use mathlib.Core.List.{_++_}
 use Prim.Native.Nat.{_-_, _≤_}
@@ -12,13 +12,17 @@ use Rattle.condition.proofs.fields.windows.Statement.{statement}
 use Rattle.condition.proofs.fields.windows.Tie as tie
 
 abbrev Inv-loop : tie.InvT-loop
-Inv-loop s w₀ p₀ w p = (p ≤ 8) × (length w₀ ≡ 8) × (w ≡ tab p (windowOf s) ++ drop p w₀)
+Inv-loop s refused w₀ p₀ w p = (p ≤ 8) × (length w₀ ≡ 8) × (w ≡ tab p (windowOf s) ++ drop p w₀)
 
 abbrev μ-loop : tie.MeasureT-loop
-μ-loop s w₀ p₀ w p = 8 - p
+μ-loop s refused w₀ p₀ w p = 8 - p
 
 no-window-requires : tie.Need-no-window-requires Inv-loop μ-loop
 no-window-requires c κs = search needs
+
+returns : tie.Need-returns Inv-loop μ-loop
+unfolding tab
+returns c = rw (c .if1 .taken, c .before .no-window .ensures) refl
 
 loop-holds : tie.Need-loop-holds Inv-loop μ-loop
 unfolding tab
@@ -42,8 +46,8 @@ loop-less c = search needs
 loop-again : tie.Need-loop-again Inv-loop μ-loop
 loop-again c = (omega arith, c .before .before .loop .inv .1, rw (c .before .before .loop .inv .2, c .window .ensures) (windows-more _ _ _ (omega arith)))
 
-returns : tie.Need-returns Inv-loop μ-loop
-returns c = c .before .loop .inv .2 ∙ windows-full _ _ _ _ (c .before .loop .inv .0) (c .loop-test .left) (c .before .loop .inv .1)
+returns-2 : tie.Need-returns-2 Inv-loop μ-loop
+returns-2 c = rw (c .before .before .if1 .left) (c .before .loop .inv .2 ∙ windows-full _ _ _ _ (c .before .loop .inv .0) (c .loop-test .left) (c .before .loop .inv .1))
 
 pub windows-spec : {M : Type 1} → statement M
 windows-spec =
@@ -52,6 +56,7 @@ windows-spec =
     Inv-loop
     μ-loop
     no-window-requires
+    returns
     loop-holds
     window-requires
     mul-w
@@ -59,4 +64,4 @@ windows-spec =
     add-p
     loop-less
     loop-again
-    returns)
+    returns-2)
