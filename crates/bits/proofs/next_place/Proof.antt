@@ -1,15 +1,15 @@
 -- What was found says the place: each arm is a line of the definition.
 use mathlib.Core.Path.{refl}
-use borrow.Author.Needs.{needs}
+use native.Mathlib.Omega.{arith}
 use Rattle.bits.specs.Bits.{placeAfter}
 use Rattle.bits.proofs.next_place.Statement.{statement}
 use Rattle.bits.proofs.next_place.Tie as tie
 
 enum-known-t : tie.Need-enum-known-t
-enum-known-t c = search needs
+enum-known-t c = omega arith
 
 enum-told : tie.Need-enum-told
-enum-told c = search needs
+enum-told c = omega arith
 
 returns : tie.Need-returns
 unfolding placeAfter

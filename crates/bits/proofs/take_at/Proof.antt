@@ -5,7 +5,6 @@ use native.Mathlib.Omega.{arith}
 use denote.Ref.{now}
 use Rattle.bits.specs.declared.Taken.{Taken}
 use Rattle.bits.proofs.BitsLaws.{peeked-field, takenOf-none, takenOf-some, leftOf-fits, fits-leftOf}
-use borrow.Author.Needs.{needs}
 use Rattle.bits.proofs.take_at.Statement.{statement}
 use Rattle.bits.proofs.take_at.Tie as tie
 
@@ -16,7 +15,7 @@ returns-2 : tie.Need-returns-2
 returns-2 c = takenOf-none _ _ _ (λ h₁ h₂ h₃. omega arith)
 
 left-at-requires : tie.Need-left-at-requires
-left-at-requires c κs = search needs
+left-at-requires c κs = tt
 
 returns-3 : tie.Need-returns-3
 returns-3 c =
@@ -24,7 +23,7 @@ returns-3 c =
     takenOf-none _ _ _ (λ h₁ h₂ h₃. omega (arith, fits-leftOf (now (S .s)) (S .at) (S .k) h₃))
 
 peek-at-requires : tie.Need-peek-at-requires
-peek-at-requires c κs = search needs
+peek-at-requires c κs = tt
 
 add-t5 : tie.Need-add-t5
 add-t5 c =

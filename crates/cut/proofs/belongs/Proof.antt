@@ -1,6 +1,5 @@
 -- The recording is looked at, then n, then the counts: the three parts of `isCut`.
 use mathlib.Core.Path.{sym}
-use borrow.Author.Needs.{needs}
 use borrow.Author.Tests.{eq-eqb}
 use Rattle.cut.specs.Value.{isCut}
 use Rattle.cuts.proofs.ReplyLaws.{refuted, answered-true, answered-false}
@@ -9,7 +8,7 @@ use Rattle.cut.proofs.belongs.Statement.{statement}
 use Rattle.cut.proofs.belongs.Tie as tie
 
 is-full-requires : tie.Need-is-full-requires
-is-full-requires c κs = search needs
+is-full-requires c κs = tt
 
 returns : tie.Need-returns
 returns c = sym (refuted _ (λ h. answered-false (c .before .is-full .ensures) (c .if1 .taken) (isFull-is _ .1 (isCut-is _ _ .0 h .full))))
@@ -18,7 +17,7 @@ returns-2 : tie.Need-returns-2
 returns-2 c = sym (refuted _ (λ h. c .if2 .taken (isCut-is _ _ .0 h .same-n)))
 
 under-requires : tie.Need-under-requires
-under-requires c κs = search needs
+under-requires c κs = tt
 
 returns-3 : tie.Need-returns-3
 unfolding isCut

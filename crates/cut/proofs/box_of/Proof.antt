@@ -19,13 +19,13 @@ abbrev μ-loop : tie.MeasureT-loop
 μ-loop full n b₀ p₀ b p = n - p
 
 is-full-requires : tie.Need-is-full-requires Inv-loop μ-loop
-is-full-requires c κs = search needs
+is-full-requires c κs = tt
 
 returns : tie.Need-returns Inv-loop μ-loop
 returns c = sym (boxOf-none _ (λ f. answered-false (c .before .is-full .ensures) (c .if1 .taken) (isFull-is _ .1 f)))
 
 cast-n : tie.Need-cast-n Inv-loop μ-loop
-cast-n c = search needs
+cast-n c = omega arith
 
 loop-holds : tie.Need-loop-holds Inv-loop μ-loop
 unfolding weight productTo
@@ -34,22 +34,22 @@ loop-holds c =
     (omega arith, f .most-eight, refl)
 
 count-requires : tie.Need-count-requires Inv-loop μ-loop
-count-requires c κs = search needs
+count-requires c κs = omega arith
 
 add-held : tie.Need-add-held Inv-loop μ-loop
-add-held c = search needs
+add-held c = omega arith
 
 mul-held : tie.Need-mul-held Inv-loop μ-loop
 mul-held c = omega (arith, mul-under (c .before .before .loop .b) (c .count .result + 1) 65537 65536 (omega arith) (omega arith))
 
 held-requires : tie.Need-held-requires Inv-loop μ-loop
-held-requires c κs = search needs
+held-requires c κs = tt
 
 add-p : tie.Need-add-p Inv-loop μ-loop
-add-p c = search needs
+add-p c = omega arith
 
 loop-less : tie.Need-loop-less Inv-loop μ-loop
-loop-less c = search needs
+loop-less c = omega arith
 
 loop-again : tie.Need-loop-again Inv-loop μ-loop
 loop-again c = (

@@ -20,13 +20,13 @@ abbrev μ-loop : tie.MeasureT-loop
 μ-loop full n t₀ q₀ t q = n - q
 
 is-full-requires : tie.Need-is-full-requires Inv-loop μ-loop
-is-full-requires c κs = search needs
+is-full-requires c κs = tt
 
 returns : tie.Need-returns Inv-loop μ-loop
 returns c = sym (eventsOf-none _ (λ f. answered-false (c .before .is-full .ensures) (c .if1 .taken) (isFull-is _ .1 f)))
 
 cast-n : tie.Need-cast-n Inv-loop μ-loop
-cast-n c = search needs
+cast-n c = omega arith
 
 loop-holds : tie.Need-loop-holds Inv-loop μ-loop
 unfolding sumTo
@@ -35,16 +35,16 @@ loop-holds c =
     (omega arith, f .most-eight, refl, omega arith)
 
 count-requires : tie.Need-count-requires Inv-loop μ-loop
-count-requires c κs = search needs
+count-requires c κs = omega arith
 
 add-t : tie.Need-add-t Inv-loop μ-loop
-add-t c = search needs
+add-t c = omega arith
 
 add-q : tie.Need-add-q Inv-loop μ-loop
-add-q c = search needs
+add-q c = omega arith
 
 loop-less : tie.Need-loop-less Inv-loop μ-loop
-loop-less c = search needs
+loop-less c = omega arith
 
 loop-again : tie.Need-loop-again Inv-loop μ-loop
 loop-again c = (omega arith, search needs, rw (c .count .ensures .0, c .before .before .loop .inv .2) (sym (sumTo-more _ _)), omega arith)

@@ -1,7 +1,6 @@
 -- The station is looked at from both sides, then the cut: the parts of `station-is`.
 use mathlib.Core.Path.{sym}
 use native.Mathlib.Omega.{arith}
-use borrow.Author.Needs.{needs}
 use Rattle.cuts.proofs.ReplyLaws.{refuted}
 use Rattle.cut.proofs.ValueRight.{station-is, station-cut}
 use Rattle.cut.proofs.has_station.Statement.{statement}
@@ -14,7 +13,7 @@ returns-2 : tie.Need-returns-2
 returns-2 c = sym (refuted _ (λ h. omega (arith, station-is _ _ _ .0 h .2)))
 
 belongs-requires : tie.Need-belongs-requires
-belongs-requires c κs = search needs
+belongs-requires c κs = tt
 
 returns-3 : tie.Need-returns-3
 returns-3 c = station-cut _ _ _ _ (omega arith) (omega arith) (c .belongs .ensures)

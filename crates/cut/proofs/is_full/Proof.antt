@@ -1,7 +1,6 @@
 -- n is looked at from both sides, then the counts: the three parts of `isFull`.
 use mathlib.Core.Path.{sym}
 use native.Mathlib.Omega.{arith}
-use borrow.Author.Needs.{needs}
 use borrow.Author.Tests.{le-leb}
 use Rattle.cut.specs.Value.{isFull}
 use Rattle.cuts.proofs.ReplyLaws.{refuted}
@@ -16,7 +15,7 @@ returns-2 : tie.Need-returns-2
 returns-2 c = sym (refuted _ (λ h. omega (arith, isFull-is _ .0 h)))
 
 under-requires : tie.Need-under-requires
-under-requires c κs = search needs
+under-requires c κs = tt
 
 returns-3 : tie.Need-returns-3
 unfolding isFull

@@ -1,15 +1,15 @@
 -- The count at place p where p is a station's, and 0 beyond n: the two cases of `mostAt`.
 use mathlib.Core.Path.{sym, _∙_}
+use native.Mathlib.Omega.{arith}
 use Rattle.cut.proofs.ValueLaws.{mostAt-in, mostAt-beyond}
-use borrow.Author.Needs.{needs}
 use Rattle.cut.proofs.most.Statement.{statement}
 use Rattle.cut.proofs.most.Tie as tie
 
 cast-if1 : tie.Need-cast-if1
-cast-if1 c = search needs
+cast-if1 c = omega arith
 
 count-requires : tie.Need-count-requires
-count-requires c κs = search needs
+count-requires c κs = omega arith
 
 returns : tie.Need-returns
 returns c = c .count .ensures .0 ∙ sym (mostAt-in _ _ (c .before .if1 .taken))

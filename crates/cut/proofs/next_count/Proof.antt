@@ -1,7 +1,6 @@
 -- Each return is one case of `nextCount`.
 use native.Mathlib.Omega.{arith}
 use Rattle.cut.proofs.ValueLaws.{next-on, next-on-none, next-back, next-back-none}
-use borrow.Author.Needs.{needs}
 use Rattle.cut.proofs.next_count.Statement.{statement}
 use Rattle.cut.proofs.next_count.Tie as tie
 
@@ -9,7 +8,7 @@ returns : tie.Need-returns
 returns c = next-on-none _ _ _ (c .before .if1 .taken) (omega arith)
 
 add-result : tie.Need-add-result
-add-result c = search needs
+add-result c = omega arith
 
 returns-2 : tie.Need-returns-2
 returns-2 c = next-on _ _ _ (c .before .if1 .taken) (omega arith)

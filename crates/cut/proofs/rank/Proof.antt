@@ -4,18 +4,17 @@ use native.Mathlib.Omega.{arith}
 use Rattle.cut.specs.declared.Ranked.{Ranked}
 use Rattle.cut.proofs.ValueLaws.{eight-counts, rankTo}
 use Rattle.cut.proofs.ValueRight.{cut-answered, no-cut-answered, boxOf-full, boxOf-loop, rankOf-loop, rankOf-none}
-use borrow.Author.Needs.{needs}
 use Rattle.cut.proofs.rank.Statement.{statement}
 use Rattle.cut.proofs.rank.Tie as tie
 
 belongs-requires : tie.Need-belongs-requires
-belongs-requires c κs = search needs
+belongs-requires c κs = tt
 
 returns : tie.Need-returns
 returns c = sym (rankOf-none _ _ (λ d h. no-cut-answered (c .before .belongs .ensures) (c .if1 .taken) d))
 
 box-of-requires : tie.Need-box-of-requires
-box-of-requires c κs = search needs
+box-of-requires c κs = tt
 
 returns-2 : tie.Need-returns-2
 returns-2 c = sym (rankOf-none _ _ (λ d h. omega (arith, boxOf-full _ (d .full))))

@@ -4,7 +4,6 @@ use mathlib.Core.List.{List}
 use Prim.Native.Nat.{ℕ, _+_, _-_, _*_, _≤_, _<_}
 use native.Mathlib.Nat.{le-antisymm}
 use native.Mathlib.Omega.{arith}
-use borrow.Author.Needs.{needs}
 use Rattle.cuts.specs.Below.{sumTo, productTo}
 use Rattle.cuts.specs.Cut.{at}
 use Rattle.cuts.specs.Rank.{weight}
@@ -48,7 +47,7 @@ abbrev μ-loop : tie.MeasureT-loop
 μ-loop full c n weight₀ r₀ p₀ weight r p = n - p
 
 cast-n : tie.Need-cast-n Inv-loop μ-loop
-cast-n c = search needs
+cast-n c = omega arith
 
 loop-holds : tie.Need-loop-holds Inv-loop μ-loop
 unfolding weight productTo rankTo sumTo

@@ -1,6 +1,6 @@
 -- Without the station, or from no cut, there is none; else the next count decides, and the rest of the cut stays.
 use mathlib.Core.Path.{_∙_}
-use borrow.Author.Needs.{needs}
+use native.Mathlib.Omega.{arith}
 use Rattle.cuts.proofs.ReplyLaws.{refuted, answered-true, answered-false}
 use Rattle.cut.proofs.ValueLaws.{step-none, step-some}
 use Rattle.cut.proofs.ValueRight.{station-place}
@@ -8,10 +8,10 @@ use Rattle.cut.proofs.step.Statement.{statement}
 use Rattle.cut.proofs.step.Tie as tie
 
 has-station-requires : tie.Need-has-station-requires
-has-station-requires c κs = search needs
+has-station-requires c κs = tt
 
 step-to-requires : tie.Need-step-to-requires
-step-to-requires c κs = search needs
+step-to-requires c κs = omega arith
 
 returns : tie.Need-returns
 returns c =
@@ -22,7 +22,7 @@ sub-p : tie.Need-sub-p
 sub-p c = station-place _ _ _ (c .before .has-station .ensures) (c .if1 .left) .0
 
 cast-p : tie.Need-cast-p
-cast-p c = search needs
+cast-p c = omega arith
 
 count-requires : tie.Need-count-requires
 count-requires c κs = station-place _ _ _ (c .before .has-station .ensures) (c .if1 .left) .1

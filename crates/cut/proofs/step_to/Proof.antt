@@ -1,8 +1,8 @@
 -- Whether x is a count is the test of `moved`.
 use mathlib.Core.Path.{refl}
+use native.Mathlib.Omega.{arith}
 use borrow.Author.Tests.{lt-ltb, le-ltb}
 use Rattle.cut.specs.Value.{moved}
-use borrow.Author.Needs.{needs}
 use Rattle.cut.proofs.step_to.Statement.{statement}
 use Rattle.cut.proofs.step_to.Tie as tie
 
@@ -11,13 +11,13 @@ unfolding moved
 returns c = rw (le-ltb _ 65536 (c .if1 .taken)) refl
 
 cast-next : tie.Need-cast-next
-cast-next c = search needs
+cast-next c = omega arith
 
 mul-next : tie.Need-mul-next
-mul-next c = search needs
+mul-next c = omega arith
 
 element-write-next : tie.Need-element-write-next
-element-write-next c = search needs
+element-write-next c = omega arith
 
 returns-2 : tie.Need-returns-2
 unfolding moved

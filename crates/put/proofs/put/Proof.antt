@@ -4,7 +4,6 @@ use mathlib.Core.Path.{_≡_, refl, sym, _∙_}
 use Prim.Native.Nat.{_+_, _-_, _*_, _/_, _^_, _≤_, _<_}
 use native.Mathlib.Omega.{arith}
 use lib.ListN.{length}
-use borrow.Author.Needs.{needs}
 use borrow.Author.Tests.{not-true, not-false}
 use Rattle.put.specs.Put.{putAt}
 use Rattle.put.proofs.PutLaws.{canHold-fits, put-step, put-done, put-none, put-some}
@@ -18,7 +17,7 @@ abbrev μ-loop : tie.MeasureT-loop
 μ-loop s₀ at k v w i₀ s i = k - i
 
 can-hold-requires : tie.Need-can-hold-requires Inv-loop μ-loop
-can-hold-requires c κs = search needs
+can-hold-requires c κs = tt
 
 returns : tie.Need-returns Inv-loop μ-loop
 returns c = put-none _ _ _ _ (sym (c .before .can-hold .ensures) ∙ not-true _ (c .if1 .taken))
@@ -30,13 +29,13 @@ loop-holds c =
     (refl, omega arith, refl, f .1, f .2)
 
 sub-put-bit : tie.Need-sub-put-bit Inv-loop μ-loop
-sub-put-bit c = search needs
+sub-put-bit c = omega arith
 
 sub-put-bit-2 : tie.Need-sub-put-bit-2 Inv-loop μ-loop
-sub-put-bit-2 c = search needs
+sub-put-bit-2 c = omega arith
 
 shr-put-bit : tie.Need-shr-put-bit Inv-loop μ-loop
-shr-put-bit c = search needs
+shr-put-bit c = omega arith
 
 put-bit-requires : tie.Need-put-bit-requires Inv-loop μ-loop
 put-bit-requires c κs =
@@ -45,10 +44,10 @@ put-bit-requires c κs =
     (omega arith, h, omega arith)
 
 add-i : tie.Need-add-i Inv-loop μ-loop
-add-i c = search needs
+add-i c = omega arith
 
 loop-less : tie.Need-loop-less Inv-loop μ-loop
-loop-less c = search needs
+loop-less c = omega arith
 
 loop-again : tie.Need-loop-again Inv-loop μ-loop
 loop-again c =

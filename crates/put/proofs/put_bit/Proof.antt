@@ -1,26 +1,27 @@
 -- The byte of bit at + i is set to itself with the bit made b.
+use native.Mathlib.Omega.{arith}
 use Rattle.put.proofs.PutLaws.{set-code}
 use borrow.Author.Needs.{needs}
 use Rattle.put.proofs.put_bit.Statement.{statement}
 use Rattle.put.proofs.put_bit.Tie as tie
 
 add-p : tie.Need-add-p
-add-p c = search needs
+add-p c = omega arith
 
 add-q : tie.Need-add-q
-add-q c = search needs
+add-q c = omega arith
 
 slice-read-with-bit : tie.Need-slice-read-with-bit
-slice-read-with-bit c = search needs
+slice-read-with-bit c = omega arith
 
 sub-with-bit : tie.Need-sub-with-bit
-sub-with-bit c = search needs
+sub-with-bit c = omega arith
 
 with-bit-requires : tie.Need-with-bit-requires
-with-bit-requires c κs = search needs
+with-bit-requires c κs = omega arith
 
 slice-write-s : tie.Need-slice-write-s
-slice-write-s c = search needs
+slice-write-s c = omega arith
 
 same-length : tie.Need-same-length
 same-length c = search needs

@@ -3,12 +3,11 @@ use Prim.Native.Nat.{_*_, _^_, _%_}
 use native.Mathlib.Nat.{div-le-self}
 use native.Mathlib.Omega.{arith}
 use Rattle.put.proofs.PutLaws.{withBit-code, withBit-code-lt, power-byte}
-use borrow.Author.Needs.{needs}
 use Rattle.put.proofs.with_bit.Statement.{statement}
 use Rattle.put.proofs.with_bit.Tie as tie
 
 shl-p : tie.Need-shl-p
-shl-p c = search needs
+shl-p c = omega arith
 
 mul-y : tie.Need-mul-y
 mul-y c = omega (arith, power-byte _ (c .pre .0) .2)

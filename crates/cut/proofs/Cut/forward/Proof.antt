@@ -1,10 +1,9 @@
 -- The step of the station, on.
-use borrow.Author.Needs.{needs}
 use Rattle.cut.proofs.Cut.forward.Statement.{statement}
 use Rattle.cut.proofs.Cut.forward.Tie as tie
 
 step-requires : tie.Need-step-requires
-step-requires c κs = search needs
+step-requires c κs = tt
 
 returns : tie.Need-returns
 returns c = c .step .ensures
