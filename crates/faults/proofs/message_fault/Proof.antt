@@ -1,7 +1,6 @@
 -- Too many stations, or a place beyond them, is a fault; then each kind of origin is one arm.
 use mathlib.Core.Path.{sym, _∙_}
 use native.Mathlib.Omega.{arith}
-use borrow.Author.Needs.{needs}
 use Rattle.faults.specs.Fault.{sourceFault}
 use Rattle.faults.specs.declared.Source.{Source}
 use Rattle.faults.proofs.FaultLaws.{sourceOf-is, tableFault-many, tableFault-beyond, tableFault-source}
@@ -15,25 +14,25 @@ returns-2 : tie.Need-returns-2
 returns-2 c = tableFault-beyond _ _ _ _ _ _ _ _ (c .if2 .taken)
 
 source-of-requires : tie.Need-source-of-requires
-source-of-requires c κs = search needs
+source-of-requires c κs = tt
 
 enum-told : tie.Need-enum-told
-enum-told c = search needs
+enum-told c = omega arith
 
 mul-local-fault : tie.Need-mul-local-fault
-mul-local-fault c = search needs
+mul-local-fault c = omega arith
 
 array-read-local-fault : tie.Need-array-read-local-fault
-array-read-local-fault c = search needs
+array-read-local-fault c = omega arith
 
 local-fault-requires : tie.Need-local-fault-requires
-local-fault-requires c κs = search needs
+local-fault-requires c κs = omega arith
 
 enum-known-source : tie.Need-enum-known-source
-enum-known-source c = search needs
+enum-known-source c = omega arith
 
 cast-receipt-fault : tie.Need-cast-receipt-fault
-cast-receipt-fault c = search needs
+cast-receipt-fault c = omega arith
 
 receipt-fault-requires : tie.Need-receipt-fault-requires
 receipt-fault-requires c κs =
@@ -41,7 +40,7 @@ receipt-fault-requires c κs =
     (omega arith, omega arith, l, h)
 
 enum-told-2 : tie.Need-enum-told-2
-enum-told-2 c = search needs
+enum-told-2 c = omega arith
 
 returns-3 : tie.Need-returns-3
 unfolding sourceFault

@@ -1,7 +1,6 @@
 -- Event 0 has zeros; the stamp of event e stands in the row before that of event e + 1.
 use mathlib.Core.Path.{_∙_}
 use native.Mathlib.Omega.{arith}
-use borrow.Author.Needs.{needs}
 use Rattle.faults.proofs.FaultLaws.{placeAt-start, placeAt-event}
 use Rattle.faults.proofs.place.Statement.{statement}
 use Rattle.faults.proofs.place.Tie as tie
@@ -10,22 +9,22 @@ returns : tie.Need-returns
 returns c = (placeAt-start _ _ _ _ (c .if1 .taken), omega arith)
 
 add-wide : tie.Need-add-wide
-add-wide c = search needs
+add-wide c = omega arith
 
 mul-wide : tie.Need-mul-wide
-mul-wide c = search needs
+mul-wide c = omega arith
 
 add-wide-2 : tie.Need-add-wide-2
-add-wide-2 c = search needs
+add-wide-2 c = omega arith
 
 mul-wide-2 : tie.Need-mul-wide-2
-mul-wide-2 c = search needs
+mul-wide-2 c = omega arith
 
 shared-slice-read-wide : tie.Need-shared-slice-read-wide
-shared-slice-read-wide c = search needs
+shared-slice-read-wide c = omega arith
 
 wide-requires : tie.Need-wide-requires
-wide-requires c κs = search needs
+wide-requires c κs = tt
 
 returns-2 : tie.Need-returns-2
 returns-2 c = (c .wide .ensures .0 ∙ placeAt-event _ _ _ _ (c .before .before .if1 .left), omega arith)

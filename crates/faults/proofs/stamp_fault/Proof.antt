@@ -3,7 +3,6 @@ use mathlib.Core.Path.{_≡_, refl, _∙_}
 use mathlib.Core.Bool.{true}
 use Prim.Native.Nat.{_-_, _≤_}
 use native.Mathlib.Omega.{arith}
-use borrow.Author.Needs.{needs}
 use borrow.Author.Tests.{eq-eqb, ne-eqb}
 use Rattle.cuts.specs.Below.{every}
 use Rattle.cuts.proofs.BelowLaws.{every-more}
@@ -19,13 +18,13 @@ abbrev μ-loop : tie.MeasureT-loop
 μ-loop n rows p first e sender k q₀ q = n - q
 
 left-requires : tie.Need-left-requires Inv-loop μ-loop
-left-requires c κs = search needs
+left-requires c κs = tt
 
 returns : tie.Need-returns Inv-loop μ-loop
 returns c = stampFault-short _ _ _ _ _ _ _ _ (c .before .left .ensures) (c .if1 .taken)
 
 left-requires-2 : tie.Need-left-requires-2 Inv-loop μ-loop
-left-requires-2 c κs = search needs
+left-requires-2 c κs = tt
 
 returns-2 : tie.Need-returns-2 Inv-loop μ-loop
 returns-2 c = stampFault-unsent _ _ _ _ _ _ _ _ (c .before .left2 .ensures) (c .if2 .taken)
@@ -35,25 +34,25 @@ unfolding every
 loop-holds c = (omega arith, refl)
 
 place-requires : tie.Need-place-requires Inv-loop μ-loop
-place-requires c κs = search needs
+place-requires c κs = omega arith
 
 place-requires-2 : tie.Need-place-requires-2 Inv-loop μ-loop
-place-requires-2 c κs = search needs
+place-requires-2 c κs = omega arith
 
 add-place : tie.Need-add-place Inv-loop μ-loop
-add-place c = search needs
+add-place c = omega arith
 
 place-requires-3 : tie.Need-place-requires-3 Inv-loop μ-loop
-place-requires-3 c κs = search needs
+place-requires-3 c κs = omega arith
 
 larger-requires : tie.Need-larger-requires Inv-loop μ-loop
-larger-requires c κs = search needs
+larger-requires c κs = tt
 
 own-place-requires : tie.Need-own-place-requires Inv-loop μ-loop
-own-place-requires c κs = search needs
+own-place-requires c κs = tt
 
 add-if3 : tie.Need-add-if3 Inv-loop μ-loop
-add-if3 c = search needs
+add-if3 c = omega arith
 
 returns-3 : tie.Need-returns-3 Inv-loop μ-loop
 returns-3 c =
@@ -62,10 +61,10 @@ returns-3 c =
     (placeRight-is _ _ _ _ _ _ _ _ _ _ _ _ (b .place3 .ensures .0) (b .before .before .place .ensures .0) (b .before .place2 .ensures .0) (c .before .before .larger .ensures) (c .before .own-place .ensures .0) ∙ ne-eqb _ _ (c .if3 .taken))
 
 add-q : tie.Need-add-q Inv-loop μ-loop
-add-q c = search needs
+add-q c = omega arith
 
 loop-less : tie.Need-loop-less Inv-loop μ-loop
-loop-less c = search needs
+loop-less c = omega arith
 
 loop-again : tie.Need-loop-again Inv-loop μ-loop
 loop-again c =

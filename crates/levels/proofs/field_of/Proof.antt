@@ -1,13 +1,12 @@
 -- The number raised by 32,768 is below 30,720, above 34,815, or between: below the levels, above them, or a level.
 use native.Mathlib.Omega.{arith}
 use mir.Facts.{toZ-ofZ}
-use borrow.Author.Needs.{needs}
 use Rattle.levels.proofs.RaisedLaws.{field-below, field-above, field-within}
 use Rattle.levels.proofs.field_of.Statement.{statement}
 use Rattle.levels.proofs.field_of.Tie as tie
 
 raised-requires : tie.Need-raised-requires
-raised-requires c κs = search needs
+raised-requires c κs = tt
 
 returns : tie.Need-returns
 returns c =

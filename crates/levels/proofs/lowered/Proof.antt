@@ -1,14 +1,14 @@
 -- x is below 65,536, so x − 32,768 fits 16 bits with a sign, and at 32 bits nothing wraps on the way.
+use native.Mathlib.Omega.{arith}
 use mir.Syntax.{w16, w32}
 use mir.Facts.{toZ-ofZ}
-use borrow.Author.Needs.{needs}
 use Rattle.levels.proofs.LevelLaws.{sub-add-back}
 use Rattle.levels.proofs.RaisedLaws.{down-fits, down-code}
 use Rattle.levels.proofs.lowered.Statement.{statement}
 use Rattle.levels.proofs.lowered.Tie as tie
 
 cast-result : tie.Need-cast-result
-cast-result c = search needs
+cast-result c = omega arith
 
 sub-result : tie.Need-sub-result
 sub-result c = rw (down-code (c .args .x) (c .fits .x .fits)) (down-fits (c .args .x) (c .fits .x .fits) .1)

@@ -1,7 +1,6 @@
 -- A place below n is that count, looked at; one beyond n is 0.
 use mathlib.Core.Path.{refl, sym, _∙_}
 use native.Mathlib.Omega.{arith}
-use borrow.Author.Needs.{needs}
 use Rattle.recording.proofs.PlaceLaws.{counts-le, peeked-read}
 use Rattle.lookup.proofs.LookupLaws.{counted-in, counted-beyond}
 use Rattle.lookup.proofs.count.Statement.{statement}
@@ -14,7 +13,7 @@ add-peek : tie.Need-add-peek
 add-peek c = omega (arith, counts-le (c .before .before .args .w) (c .before .before .args .q) (omega arith) (omega arith))
 
 peek-requires : tie.Need-peek-requires
-peek-requires c κs = search needs
+peek-requires c κs = tt
 
 returns : tie.Need-returns
 returns c = peeked-read _ _ _ _ 9 _ (c .peek .ensures) refl (omega arith) (omega arith) .0 ∙ sym (counted-in _ _ _ _ _ (c .before .if1 .taken))

@@ -1,21 +1,20 @@
 -- Event 0 has the start level and zeros; the record of any other event stands after those of the stations before and of the events before.
 use native.Mathlib.Omega.{arith}
-use borrow.Author.Needs.{needs}
 use Rattle.lookup.proofs.LookupLaws.{start-signed, foundOf-start, record-place, foundOf-event}
 use Rattle.lookup.proofs.found_at.Statement.{statement}
 use Rattle.lookup.proofs.found_at.Tie as tie
 
 station-bit-requires : tie.Need-station-bit-requires
-station-bit-requires c κs = search needs
+station-bit-requires c κs = omega arith
 
 add-peek : tie.Need-add-peek
-add-peek c = search needs
+add-peek c = omega arith
 
 peek-requires : tie.Need-peek-requires
-peek-requires c κs = search needs
+peek-requires c κs = tt
 
 signed-requires : tie.Need-signed-requires
-signed-requires c κs = search needs
+signed-requires c κs = tt
 
 returns : tie.Need-returns
 returns c =
@@ -23,7 +22,7 @@ returns c =
     foundOf-start _ _ _ _ _ en hp _ _ (c .before .before .before .if1 .taken) (start-signed _ _ _ _ _ _ _ (c .before .before .station-bit .ensures .0) (c .before .peek .ensures) (c .signed .ensures))
 
 first-requires : tie.Need-first-requires
-first-requires c κs = search needs
+first-requires c κs = omega arith
 
 add-record-bit : tie.Need-add-record-bit
 add-record-bit c =
@@ -36,37 +35,37 @@ record-bit-requires c κs =
     (h, g, hn, omega (arith, record-place _ _ _ _ _ en hp _ em hn _ (c .first .ensures .0) g _ (c .before .if1 .left) he))
 
 peek-requires-2 : tie.Need-peek-requires-2
-peek-requires-2 c κs = search needs
+peek-requires-2 c κs = tt
 
 cast-t22 : tie.Need-cast-t22
-cast-t22 c = search needs
+cast-t22 c = omega arith
 
 add-peek-2 : tie.Need-add-peek-2
-add-peek-2 c = search needs
+add-peek-2 c = omega arith
 
 peek-requires-3 : tie.Need-peek-requires-3
-peek-requires-3 c κs = search needs
+peek-requires-3 c κs = tt
 
 add-peek-3 : tie.Need-add-peek-3
-add-peek-3 c = search needs
+add-peek-3 c = omega arith
 
 add-peek-4 : tie.Need-add-peek-4
-add-peek-4 c = search needs
+add-peek-4 c = omega arith
 
 peek-requires-4 : tie.Need-peek-requires-4
-peek-requires-4 c κs = search needs
+peek-requires-4 c κs = tt
 
 signed-requires-2 : tie.Need-signed-requires-2
-signed-requires-2 c κs = search needs
+signed-requires-2 c κs = tt
 
 add-stamp : tie.Need-add-stamp
-add-stamp c = search needs
+add-stamp c = omega arith
 
 add-stamp-2 : tie.Need-add-stamp-2
-add-stamp-2 c = search needs
+add-stamp-2 c = omega arith
 
 stamp-requires : tie.Need-stamp-requires
-stamp-requires c κs = search needs
+stamp-requires c κs = omega arith
 
 returns-2 : tie.Need-returns-2
 returns-2 c =

@@ -1,8 +1,7 @@
 -- Each test that fails makes the reply false.
 use mathlib.Core.Path.{refl}
-use borrow.Author.Needs.{needs}
+use native.Mathlib.Omega.{arith}
 use borrow.Author.Tests.{le-leb, lt-leb}
-use borrow.Author.Needs.{needs}
 use Rattle.lookup.proofs.is_recorded.Statement.{statement}
 use Rattle.lookup.proofs.is_recorded.Tie as tie
 
@@ -17,13 +16,13 @@ returns-2 c =
     rw (le-leb 1 (A .station) (c .before .if1 .left), lt-leb (A .station) (A .n) (c .if2 .taken)) refl
 
 cast-if3 : tie.Need-cast-if3
-cast-if3 c = search needs
+cast-if3 c = omega arith
 
 mul-if3 : tie.Need-mul-if3
-mul-if3 c = search needs
+mul-if3 c = omega arith
 
 array-read-if3 : tie.Need-array-read-if3
-array-read-if3 c = search needs
+array-read-if3 c = omega arith
 
 returns-3 : tie.Need-returns-3
 returns-3 c =

@@ -1,21 +1,19 @@
 -- The recording's checks come first; then the station and the event are compared with n and m, which the full cut has, and what they name is found.
 use mathlib.Core.Path.{sym, ap, _∙_}
 use native.Mathlib.Omega.{arith}
-use borrow.Author.Needs.{needs}
 use Rattle.lookup.specs.Lookup.{notFound}
 use Rattle.lookup.proofs.LookupLaws.{full-stations, full-counts, full-few, recorded-read, lookupOf-refused, lookup-found, lookup-none}
-use borrow.Author.Needs.{needs}
 use Rattle.lookup.proofs.lookup.Statement.{statement}
 use Rattle.lookup.proofs.lookup.Tie as tie
 
 check-requires : tie.Need-check-requires
-check-requires c κs = search needs
+check-requires c κs = tt
 
 enum-known-v : tie.Need-enum-known-v
 enum-known-v c = c .match .keys1
 
 not-found-requires : tie.Need-not-found-requires
-not-found-requires c κs = search needs
+not-found-requires c κs = tt
 
 returns : tie.Need-returns
 returns c =
@@ -23,10 +21,10 @@ returns c =
     c .not-found .ensures ∙ lookupOf-refused _ _ _ _ _ _ (sym (b .before .before .check .ensures) ∙ b .v .given .1)
 
 enum-told : tie.Need-enum-told
-enum-told c = search needs
+enum-told c = omega arith
 
 full-cut-requires : tie.Need-full-cut-requires
-full-cut-requires c κs = search needs
+full-cut-requires c κs = tt
 
 is-recorded-requires : tie.Need-is-recorded-requires
 is-recorded-requires c κs =
@@ -35,7 +33,7 @@ is-recorded-requires c κs =
     full-few _ _ _ 0 0 _ (b .before .before .check .ensures) (b .enum-told .given .1) _ (F .full-cut .ensures)
 
 cast-found-at : tie.Need-cast-found-at
-cast-found-at c = search needs
+cast-found-at c = omega arith
 
 sub-found-at : tie.Need-sub-found-at
 sub-found-at c =
@@ -44,7 +42,7 @@ sub-found-at c =
     recorded-read _ _ _ _ _ _ (b .before .before .check .ensures) (b .enum-told .given .1) _ (F .full-cut .ensures) _ (c .before .before .is-recorded .ensures) (c .before .if1 .taken) .0
 
 cast-found-at-2 : tie.Need-cast-found-at-2
-cast-found-at-2 c = search needs
+cast-found-at-2 c = omega arith
 
 found-at-requires : tie.Need-found-at-requires
 found-at-requires c κs =
@@ -61,10 +59,10 @@ returns-2 c =
     c .found-at .ensures ∙ lookup-found _ _ _ _ _ _ (b .before .before .check .ensures) (b .enum-told .given .1) _ (F .full-cut .ensures) _ (c .before .before .before .is-recorded .ensures) (c .before .before .if1 .taken)
 
 whole-requires : tie.Need-whole-requires
-whole-requires c κs = search needs
+whole-requires c κs = tt
 
 not-found-requires-2 : tie.Need-not-found-requires-2
-not-found-requires-2 c κs = search needs
+not-found-requires-2 c κs = tt
 
 returns-3 : tie.Need-returns-3
 returns-3 c =

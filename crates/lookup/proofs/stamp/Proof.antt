@@ -4,7 +4,6 @@ use mathlib.Core.List.{_++_}
 use Prim.Native.Nat.{_-_, _≤_}
 use native.Mathlib.Omega.{arith}
 use lib.ListN.{drop}
-use borrow.Author.Needs.{needs}
 use Rattle.cuts.specs.Below.{tab}
 use Rattle.cuts.proofs.TabLaws.{tab-none, tab-more, tab-full}
 use Rattle.lookup.specs.Lookup.{counted}
@@ -21,19 +20,19 @@ loop-holds : tie.Need-loop-holds Inv-loop μ-loop
 loop-holds c = (omega arith, tab-none _ _)
 
 count-requires : tie.Need-count-requires Inv-loop μ-loop
-count-requires c κs = search needs
+count-requires c κs = omega arith
 
 mul-t : tie.Need-mul-t Inv-loop μ-loop
-mul-t c = search needs
+mul-t c = omega arith
 
 array-write-t : tie.Need-array-write-t Inv-loop μ-loop
-array-write-t c = search needs
+array-write-t c = omega arith
 
 add-q : tie.Need-add-q Inv-loop μ-loop
-add-q c = search needs
+add-q c = omega arith
 
 loop-less : tie.Need-loop-less Inv-loop μ-loop
-loop-less c = search needs
+loop-less c = omega arith
 
 loop-again : tie.Need-loop-again Inv-loop μ-loop
 loop-again c =

@@ -6,18 +6,17 @@ use lib.ListN.{length-replicate}
 use Rattle.recording.specs.Fault.{checkedBy}
 use Rattle.recording.specs.declared.Checked.{Checked}
 use Rattle.recording.proofs.FaultLaws.{checkedBy-0, checkedBy-refused}
-use borrow.Author.Needs.{needs}
 use Rattle.recording.proofs.check.Statement.{statement}
 use Rattle.recording.proofs.check.Tie as tie
 
 slice-aggregate-check-rows : tie.Need-slice-aggregate-check-rows
-slice-aggregate-check-rows c = search needs
+slice-aggregate-check-rows c = omega arith
 
 check-rows-requires : tie.Need-check-rows-requires
 check-rows-requires c κs = (omega arith, omega arith, omega arith, omega arith, length-replicate {A = ℕ} 32704 0)
 
 refusal-requires : tie.Need-refusal-requires
-refusal-requires c κs = search needs
+refusal-requires c κs = tt
 
 returns : tie.Need-returns
 returns c = ap Checked.Refused (c .refusal .ensures) ∙ sym (checkedBy-refused _ (c .before .if1 .taken)) ∙ c .before .before .before .check-rows .ensures .reply

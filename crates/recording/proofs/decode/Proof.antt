@@ -3,18 +3,17 @@ use Prim.Native.Nat.{ℕ}
 use native.Mathlib.Omega.{arith}
 use lib.ListN.{length-replicate}
 use Rattle.recording.proofs.DecodedLaws.{decode-refused, decode-short, decode-done, fits-read}
-use borrow.Author.Needs.{needs}
 use Rattle.recording.proofs.decode.Statement.{statement}
 use Rattle.recording.proofs.decode.Tie as tie
 
 slice-aggregate-check-rows : tie.Need-slice-aggregate-check-rows
-slice-aggregate-check-rows c = search needs
+slice-aggregate-check-rows c = omega arith
 
 check-rows-requires : tie.Need-check-rows-requires
 check-rows-requires c κs = (omega arith, omega arith, omega arith, omega arith, length-replicate {A = ℕ} 32704 0)
 
 refusal-requires : tie.Need-refusal-requires
-refusal-requires c κs = search needs
+refusal-requires c κs = tt
 
 returns : tie.Need-returns
 returns c = decode-refused _ _ _ _ _ _ _ (c .before .before .before .check-rows .ensures) (c .before .if1 .taken) _ (c .refusal .ensures)
@@ -33,10 +32,10 @@ returns-2 c =
     decode-short _ _ _ _ _ _ _ (E .before .before .check-rows .ensures) (E .if1 .left) _ (T .total .ensures .0) _ (s .short .ensures) (c .if2 .taken)
 
 slice-aggregate-copy : tie.Need-slice-aggregate-copy
-slice-aggregate-copy c = search needs
+slice-aggregate-copy c = omega arith
 
 mul-copy : tie.Need-mul-copy
-mul-copy c = search needs
+mul-copy c = omega arith
 
 copy-requires : tie.Need-copy-requires
 copy-requires c κs = (omega arith, fits-read _ _ _ _ (c .before .before .before .short .ensures) (c .before .before .if2 .left) .0)
@@ -49,10 +48,10 @@ lay-levels-requires c κs =
     (omega arith, omega arith, omega arith, E .before .before .check-rows .ensures .laid (E .if1 .left) .n-most, T .total .ensures .1, fits-read _ _ _ _ (e .before .short .ensures) (e .if2 .left) .1)
 
 same-length : tie.Need-same-length
-same-length c = search needs
+same-length c = omega arith
 
 same-length-2 : tie.Need-same-length-2
-same-length-2 c = search needs
+same-length-2 c = omega arith
 
 returns-3 : tie.Need-returns-3
 returns-3 c =

@@ -1,18 +1,18 @@
 -- n is read and fits a byte, and the counts are those of its stations.
 use mathlib.Core.Path.{refl}
-use borrow.Author.Needs.{needs}
+use native.Mathlib.Omega.{arith}
 use Rattle.recording.specs.Decode.{fullOf}
 use Rattle.recording.proofs.full_cut.Statement.{statement}
 use Rattle.recording.proofs.full_cut.Tie as tie
 
 stations-requires : tie.Need-stations-requires
-stations-requires c κs = search needs
+stations-requires c κs = omega arith
 
 counts-requires : tie.Need-counts-requires
-counts-requires c κs = search needs
+counts-requires c κs = omega arith
 
 cast-t4 : tie.Need-cast-t4
-cast-t4 c = search needs
+cast-t4 c = omega arith
 
 returns : tie.Need-returns
 unfolding fullOf

@@ -1,13 +1,13 @@
 -- Each test that a room fails makes the reply true.
 use mathlib.Core.Path.{refl}
 use Prim.Native.Nat.{_*_}
+use native.Mathlib.Omega.{arith}
 use borrow.Author.Tests.{le-leb, lt-leb}
-use borrow.Author.Needs.{needs}
 use Rattle.recording.proofs.short.Statement.{statement}
 use Rattle.recording.proofs.short.Tie as tie
 
 mul-if1 : tie.Need-mul-if1
-mul-if1 c = search needs
+mul-if1 c = omega arith
 
 returns : tie.Need-returns
 returns c =

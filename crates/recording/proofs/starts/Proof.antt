@@ -1,14 +1,14 @@
 -- n is read, and the start levels are those of its stations.
-use borrow.Author.Needs.{needs}
+use native.Mathlib.Omega.{arith}
 use Rattle.recording.specs.Decode.{startsOf}
 use Rattle.recording.proofs.starts.Statement.{statement}
 use Rattle.recording.proofs.starts.Tie as tie
 
 stations-requires : tie.Need-stations-requires
-stations-requires c κs = search needs
+stations-requires c κs = omega arith
 
 starts-requires : tie.Need-starts-requires
-starts-requires c κs = search needs
+starts-requires c κs = omega arith
 
 returns : tie.Need-returns
 unfolding startsOf

@@ -1,21 +1,20 @@
 -- "def yes" takes its eight bytes; "def no" and the newline take seven, and the path takes its own of what they leave.
 use native.Mathlib.Omega.{arith}
-use borrow.Author.Needs.{needs}
 use Rattle.text.proofs.LineLaws.{def-yes, length-def-no}
 use Rattle.text.proofs.left_by_def.Statement.{statement}
 use Rattle.text.proofs.left_by_def.Tie as tie
 
 less-requires : tie.Need-less-requires
-less-requires c κs = search needs
+less-requires c κs = tt
 
 returns : tie.Need-returns
 returns c = rw (def-yes _ (c .before .if1 .taken)) (c .less .ensures)
 
 less-requires-2 : tie.Need-less-requires-2
-less-requires-2 c κs = search needs
+less-requires-2 c κs = tt
 
 left-by-path-requires : tie.Need-left-by-path-requires
-left-by-path-requires c κs = search needs
+left-by-path-requires c κs = tt
 
 returns-2 : tie.Need-returns-2
 returns-2 c = rw (length-def-no _ (c .before .before .if1 .left)) (omega arith)

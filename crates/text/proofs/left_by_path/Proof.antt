@@ -4,7 +4,6 @@ use Prim.Native.Nat.{_-_, _≤_}
 use native.Mathlib.Omega.{arith}
 use lib.ListN.{length, take}
 use lib.Seq.{take-all}
-use borrow.Author.Needs.{needs}
 use Rattle.text.specs.Text.{numbers}
 use Rattle.text.proofs.DecimalLaws.{length-numbers-more}
 use Rattle.text.proofs.left_by_path.Statement.{statement}
@@ -21,22 +20,22 @@ unfolding numbers
 loop-holds c = (omega arith, omega arith)
 
 shared-slice-read-number-length : tie.Need-shared-slice-read-number-length Inv-loop μ-loop
-shared-slice-read-number-length c = search needs
+shared-slice-read-number-length c = omega arith
 
 cast-number-length : tie.Need-cast-number-length Inv-loop μ-loop
 cast-number-length c = omega (arith, c .shared-slice-known2 .given (c .before .before .loop .i))
 
 number-length-requires : tie.Need-number-length-requires Inv-loop μ-loop
-number-length-requires c κs = search needs
+number-length-requires c κs = tt
 
 less-requires : tie.Need-less-requires Inv-loop μ-loop
-less-requires c κs = search needs
+less-requires c κs = tt
 
 add-i : tie.Need-add-i Inv-loop μ-loop
-add-i c = search needs
+add-i c = omega arith
 
 loop-less : tie.Need-loop-less Inv-loop μ-loop
-loop-less c = search needs
+loop-less c = omega arith
 
 loop-again : tie.Need-loop-again Inv-loop μ-loop
 loop-again c =

@@ -3,7 +3,6 @@ use mathlib.Core.Path.{_≡_, refl}
 use Prim.Native.Nat.{_+_, _/_, _≤_, _<_}
 use native.Mathlib.Omega.{arith}
 use lib.ListN.{length}
-use borrow.Author.Needs.{needs}
 use Rattle.text.specs.Text.{decimal}
 use Rattle.text.proofs.DecimalLaws.{length-digit, length-tens, length-u16}
 use Rattle.text.proofs.number_length.Statement.{statement}
@@ -19,10 +18,10 @@ loop-holds : tie.Need-loop-holds Inv-loop μ-loop
 loop-holds c = let h : c .args .x < 65536 = omega arith in (refl, h, length-u16 (c .args .x) h)
 
 add-n : tie.Need-add-n Inv-loop μ-loop
-add-n c = search needs
+add-n c = omega arith
 
 loop-less : tie.Need-loop-less Inv-loop μ-loop
-loop-less c = search needs
+loop-less c = omega arith
 
 loop-again : tie.Need-loop-again Inv-loop μ-loop
 loop-again c =

@@ -1,12 +1,11 @@
 -- "def yes" is the whole line; behind "def no" the stations and the newline stand. Each fits since the line does.
 use native.Mathlib.Omega.{arith}
-use borrow.Author.Needs.{needs}
 use Rattle.text.proofs.LineLaws.{def-word-fits, def-path-fits, written-def-yes, written-def-no}
 use Rattle.text.proofs.put_def.Statement.{statement}
 use Rattle.text.proofs.put_def.Tie as tie
 
 def-word-requires : tie.Need-def-word-requires
-def-word-requires c κs = search needs
+def-word-requires c κs = tt
 
 put-word-requires : tie.Need-put-word-requires
 put-word-requires c κs =
@@ -15,7 +14,7 @@ put-word-requires c κs =
     (e .0, omega (arith, def-word-fits (a .def) (a .path .now) (c .def-word .result) (e .0) (e .1)))
 
 same-length : tie.Need-same-length
-same-length c = search needs
+same-length c = omega arith
 
 returns : tie.Need-returns
 returns c =
@@ -29,7 +28,7 @@ put-path-requires c κs =
     (def-path-fits _ (c .before .if1 .left) (W .before .def-word .ensures .1) (W .put-word .ensures) (W .before .before .before .before .before .pre))
 
 same-length-2 : tie.Need-same-length-2
-same-length-2 c = search needs
+same-length-2 c = omega arith
 
 returns-2 : tie.Need-returns-2
 returns-2 c =

@@ -1,15 +1,14 @@
 -- What is compared with the bytes that are left is the length of the line; where it fits, its end stands behind its word.
 use native.Mathlib.Omega.{arith}
-use borrow.Author.Needs.{needs}
 use Rattle.text.proofs.LineLaws.{line-none, line-whole}
 use Rattle.text.proofs.put_line.Statement.{statement}
 use Rattle.text.proofs.put_line.Tie as tie
 
 numbers-length-requires : tie.Need-numbers-length-requires
-numbers-length-requires c κs = search needs
+numbers-length-requires c κs = omega arith
 
 add-if1 : tie.Need-add-if1
-add-if1 c = search needs
+add-if1 c = omega arith
 
 returns : tie.Need-returns
 returns c =
@@ -17,13 +16,13 @@ returns c =
     line-none _ _ _ _ _ (N .before .before .before .pre .1) (N .numbers-length .ensures .0) (omega arith)
 
 put-word-requires : tie.Need-put-word-requires
-put-word-requires c κs = search needs
+put-word-requires c κs = omega arith
 
 put-numbers-requires : tie.Need-put-numbers-requires
-put-numbers-requires c κs = search needs
+put-numbers-requires c κs = omega arith
 
 same-length : tie.Need-same-length
-same-length c = search needs
+same-length c = omega arith
 
 returns-2 : tie.Need-returns-2
 returns-2 c =

@@ -3,7 +3,6 @@ use mathlib.Core.Path.{_≡_, refl, _∙_}
 use Prim.Native.Nat.{_+_, _%_, _<_}
 use native.Mathlib.Omega.{arith}
 use lib.ListN.{length, length-set}
-use borrow.Author.Needs.{needs}
 use Rattle.text.specs.Text.{decimal}
 use Rattle.text.specs.Written.{stored}
 use Rattle.text.proofs.DecimalLaws.{length-tens}
@@ -20,34 +19,34 @@ abbrev μ-loop : tie.MeasureT-loop
 μ-loop room₀ at x next y₀ last₀ room y last = y
 
 number-length-requires : tie.Need-number-length-requires Inv-loop μ-loop
-number-length-requires c κs = search needs
+number-length-requires c κs = tt
 
 add-next : tie.Need-add-next Inv-loop μ-loop
-add-next c = search needs
+add-next c = omega arith
 
 slice-write-room : tie.Need-slice-write-room Inv-loop μ-loop
-slice-write-room c = search needs
+slice-write-room c = omega arith
 
 sub-last : tie.Need-sub-last Inv-loop μ-loop
-sub-last c = search needs
+sub-last c = omega arith
 
 loop-holds : tie.Need-loop-holds Inv-loop μ-loop
 loop-holds c = (omega arith, omega arith, simp length-set (omega arith), refl, refl)
 
 cast-room : tie.Need-cast-room Inv-loop μ-loop
-cast-room c = search needs
+cast-room c = omega arith
 
 add-room : tie.Need-add-room Inv-loop μ-loop
-add-room c = search needs
+add-room c = omega arith
 
 slice-write-room-2 : tie.Need-slice-write-room-2 Inv-loop μ-loop
-slice-write-room-2 c = search needs
+slice-write-room-2 c = omega arith
 
 sub-last-2 : tie.Need-sub-last-2 Inv-loop μ-loop
 sub-last-2 c = omega (arith, length-tens (c .before .loop .y) (c .loop-test .taken) (c .before .loop .inv .1))
 
 loop-less : tie.Need-loop-less Inv-loop μ-loop
-loop-less c = search needs
+loop-less c = omega arith
 
 loop-again : tie.Need-loop-again Inv-loop μ-loop
 loop-again c =
@@ -57,13 +56,13 @@ loop-again c =
     (omega arith, omega arith, omega arith, l ∙ L .inv .3, digits-more (L .room) _ (L .y) _ (c .loop-test .taken) (L .inv .1) (L .inv .0) ∙ L .inv .4)
 
 cast-room-2 : tie.Need-cast-room-2 Inv-loop μ-loop
-cast-room-2 c = search needs
+cast-room-2 c = omega arith
 
 add-room-2 : tie.Need-add-room-2 Inv-loop μ-loop
-add-room-2 c = search needs
+add-room-2 c = omega arith
 
 slice-write-room-3 : tie.Need-slice-write-room-3 Inv-loop μ-loop
-slice-write-room-3 c = search needs
+slice-write-room-3 c = omega arith
 
 same-length : tie.Need-same-length Inv-loop μ-loop
 same-length c =

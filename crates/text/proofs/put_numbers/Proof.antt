@@ -3,7 +3,6 @@ use mathlib.Core.Path.{_≡_, refl, _∙_}
 use Prim.Native.Nat.{_-_, _≤_}
 use native.Mathlib.Omega.{arith}
 use lib.ListN.{length, take, length-set}
-use borrow.Author.Needs.{needs}
 use Rattle.text.specs.Text.{numbers}
 use Rattle.text.specs.Written.{Written}
 use Rattle.text.proofs.DecimalLaws.{numbers-fit}
@@ -21,10 +20,10 @@ loop-holds : tie.Need-loop-holds Inv-loop μ-loop
 loop-holds c = (omega arith, numbers-none _ _, refl)
 
 mul-put-number : tie.Need-mul-put-number Inv-loop μ-loop
-mul-put-number c = search needs
+mul-put-number c = omega arith
 
 shared-slice-read-put-number : tie.Need-shared-slice-read-put-number Inv-loop μ-loop
-shared-slice-read-put-number c = search needs
+shared-slice-read-put-number c = omega arith
 
 put-number-requires : tie.Need-put-number-requires Inv-loop μ-loop
 put-number-requires c κs =
@@ -34,10 +33,10 @@ put-number-requires c κs =
     omega (arith, numbers-fit (a .values .now) (L .i) (a .at) (L .next) (length (a .room .now)) (I .loop-test .taken) (omega (arith, length-ended (a .values .now))) (L .inv .1 .behind))
 
 add-i : tie.Need-add-i Inv-loop μ-loop
-add-i c = search needs
+add-i c = omega arith
 
 loop-less : tie.Need-loop-less Inv-loop μ-loop
-loop-less c = search needs
+loop-less c = omega arith
 
 loop-again : tie.Need-loop-again Inv-loop μ-loop
 loop-again c =

@@ -3,7 +3,6 @@ use mathlib.Core.Path.{_≡_, refl, _∙_}
 use Prim.Native.Nat.{_-_, _≤_}
 use native.Mathlib.Omega.{arith}
 use lib.ListN.{length, take, length-set}
-use borrow.Author.Needs.{needs}
 use Rattle.text.specs.Text.{numbers}
 use Rattle.text.specs.Written.{Written}
 use Rattle.text.proofs.DecimalLaws.{numbers-fit}
@@ -21,7 +20,7 @@ loop-holds : tie.Need-loop-holds Inv-loop μ-loop
 loop-holds c = (omega arith, numbers-none _ _, refl)
 
 shared-slice-read-put-number : tie.Need-shared-slice-read-put-number Inv-loop μ-loop
-shared-slice-read-put-number c = search needs
+shared-slice-read-put-number c = omega arith
 
 cast-put-number : tie.Need-cast-put-number Inv-loop μ-loop
 cast-put-number c = omega (arith, c .shared-slice-known2 .given (c .before .before .before .loop .i))
@@ -34,10 +33,10 @@ put-number-requires c κs =
     omega (arith, numbers-fit (a .path .now) (L .i) (a .at) (L .next) (length (a .room .now)) (I .loop-test .taken) (omega (arith, length-ended (a .path .now))) (L .inv .1 .behind))
 
 add-i : tie.Need-add-i Inv-loop μ-loop
-add-i c = search needs
+add-i c = omega arith
 
 loop-less : tie.Need-loop-less Inv-loop μ-loop
-loop-less c = search needs
+loop-less c = omega arith
 
 loop-again : tie.Need-loop-again Inv-loop μ-loop
 loop-again c =

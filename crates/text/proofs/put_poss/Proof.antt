@@ -4,17 +4,16 @@ use Prim.Native.Nat.{_≤_}
 use native.Mathlib.Omega.{arith}
 use lib.ListN.{length, length-take}
 use lib.Seq.{length-take-le}
-use borrow.Author.Needs.{needs}
 use Rattle.cut.proofs.ValueLaws.{eight-counts}
 use Rattle.text.proofs.LineLaws.{poss-line}
 use Rattle.text.proofs.put_poss.Statement.{statement}
 use Rattle.text.proofs.put_poss.Tie as tie
 
 shown-requires : tie.Need-shown-requires
-shown-requires c κs = search needs
+shown-requires c κs = tt
 
 poss-word-requires : tie.Need-poss-word-requires
-poss-word-requires c κs = search needs
+poss-word-requires c κs = tt
 
 -- no more counts are shown than there are
 enough : (c : tie.After-shown) → c .shown .result ≤ length (c .before .before .before .args .witness .counts)
@@ -32,7 +31,7 @@ put-line-requires : tie.Need-put-line-requires
 put-line-requires c κs = (omega arith, c .before .poss-word .ensures .0, simp length-take (omega arith))
 
 same-length : tie.Need-same-length
-same-length c = search needs
+same-length c = omega arith
 
 returns : tie.Need-returns
 returns c =

@@ -4,7 +4,6 @@ use Prim.Native.Nat.{_+_, _-_, _≤_}
 use native.Mathlib.Nat.{add-zero}
 use native.Mathlib.Omega.{arith}
 use lib.ListN.{length, take}
-use borrow.Author.Needs.{needs}
 use Rattle.text.specs.Written.{Written}
 use Rattle.text.proofs.TextLaws.{written-none, written-length, word-more, word-byte, word-whole}
 use Rattle.text.proofs.put_word.Statement.{statement}
@@ -23,16 +22,16 @@ array-read-room : tie.Need-array-read-room Inv-loop μ-loop
 array-read-room c = omega (arith, c .before .before .before .pre .0 .most)
 
 add-room : tie.Need-add-room Inv-loop μ-loop
-add-room c = search needs
+add-room c = omega arith
 
 slice-write-room : tie.Need-slice-write-room Inv-loop μ-loop
-slice-write-room c = search needs
+slice-write-room c = omega arith
 
 add-i : tie.Need-add-i Inv-loop μ-loop
-add-i c = search needs
+add-i c = omega arith
 
 loop-less : tie.Need-loop-less Inv-loop μ-loop
-loop-less c = search needs
+loop-less c = omega arith
 
 loop-again : tie.Need-loop-again Inv-loop μ-loop
 loop-again c =
@@ -41,7 +40,7 @@ loop-again c =
     (omega arith, w, written-length w)
 
 add-result : tie.Need-add-result Inv-loop μ-loop
-add-result c = search needs
+add-result c = omega arith
 
 same-length : tie.Need-same-length Inv-loop μ-loop
 same-length c = c .before .loop .inv .2

@@ -1,17 +1,17 @@
 -- What the second line leaves of the room is offered to the first, which has at least one byte: where nothing was put, not both fit.
-use borrow.Author.Needs.{needs}
+use native.Mathlib.Omega.{arith}
 use Rattle.text.proofs.LineLaws.{verdict-none, verdict-second, verdict-whole}
 use Rattle.text.proofs.verdicts.Statement.{statement}
 use Rattle.text.proofs.verdicts.Tie as tie
 
 left-by-def-requires : tie.Need-left-by-def-requires
-left-by-def-requires c κs = search needs
+left-by-def-requires c κs = tt
 
 put-poss-requires : tie.Need-put-poss-requires
-put-poss-requires c κs = search needs
+put-poss-requires c κs = omega arith
 
 same-length : tie.Need-same-length
-same-length c = search needs
+same-length c = omega arith
 
 returns : tie.Need-returns
 returns c =
@@ -24,7 +24,7 @@ put-def-requires c κs =
     rw (Q .put-poss .kept .0) (verdict-second _ _ _ _ (Q .put-poss .ensures) (Q .before .before .left-by-def .ensures) (c .before .if1 .left))
 
 same-length-2 : tie.Need-same-length-2
-same-length-2 c = search needs
+same-length-2 c = omega arith
 
 returns-2 : tie.Need-returns-2
 returns-2 c =

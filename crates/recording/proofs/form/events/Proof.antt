@@ -4,15 +4,14 @@ use native.Mathlib.Omega.{arith}
 use Rattle.recording.specs.Form.{mAt}
 use Rattle.recording.proofs.PlaceLaws.{peeked-read}
 use Rattle.recording.proofs.DecodeLaws.{eventsAt-in, eventsAt-beyond}
-use borrow.Author.Needs.{needs}
 use Rattle.recording.proofs.form.events.Statement.{statement}
 use Rattle.recording.proofs.form.events.Tie as tie
 
 station-bit-requires : tie.Need-station-bit-requires
-station-bit-requires c κs = search needs
+station-bit-requires c κs = omega arith
 
 peek-requires : tie.Need-peek-requires
-peek-requires c κs = search needs
+peek-requires c κs = tt
 
 returns : tie.Need-returns
 unfolding mAt

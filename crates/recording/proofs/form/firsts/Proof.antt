@@ -4,7 +4,6 @@ use mathlib.Core.List.{_++_}
 use Prim.Native.Nat.{_-_, _≤_}
 use native.Mathlib.Omega.{arith}
 use lib.ListN.{drop}
-use borrow.Author.Needs.{needs}
 use Rattle.cuts.specs.Below.{tab}
 use Rattle.cuts.proofs.TabLaws.{tab-none, tab-more, tab-full}
 use Rattle.recording.specs.Decode.{recordsTo}
@@ -23,16 +22,16 @@ loop-holds : tie.Need-loop-holds Inv-loop μ-loop
 loop-holds c = (omega arith, sym (recordsTo-zero _ _ _ _), tab-none _ _)
 
 mul-f : tie.Need-mul-f Inv-loop μ-loop
-mul-f c = search needs
+mul-f c = omega arith
 
 array-write-f : tie.Need-array-write-f Inv-loop μ-loop
-array-write-f c = search needs
+array-write-f c = omega arith
 
 events-requires : tie.Need-events-requires Inv-loop μ-loop
-events-requires c κs = search needs
+events-requires c κs = omega arith
 
 wide-requires : tie.Need-wide-requires Inv-loop μ-loop
-wide-requires c κs = search needs
+wide-requires c κs = tt
 
 add-before : tie.Need-add-before Inv-loop μ-loop
 add-before c =
@@ -40,10 +39,10 @@ add-before c =
     omega (arith, recordsTo-le (A .lead) (A .w) (A .s .now) (A .n) (c .before .before .before .loop .p) (omega arith))
 
 add-p : tie.Need-add-p Inv-loop μ-loop
-add-p c = search needs
+add-p c = omega arith
 
 loop-less : tie.Need-loop-less Inv-loop μ-loop
-loop-less c = search needs
+loop-less c = omega arith
 
 loop-again : tie.Need-loop-again Inv-loop μ-loop
 loop-again c =

@@ -4,7 +4,6 @@ use mathlib.Core.List.{_++_}
 use Prim.Native.Nat.{_-_, _≤_}
 use native.Mathlib.Omega.{arith}
 use lib.ListN.{length, drop, length-set}
-use borrow.Author.Needs.{needs}
 use Rattle.cuts.specs.Below.{tab}
 use Rattle.cuts.proofs.TabLaws.{tab-none, tab-more, tab-front}
 use Rattle.recording.specs.Decode.{levelCell}
@@ -18,7 +17,7 @@ abbrev μ-loop : tie.MeasureT-loop
 μ-loop lead w s total out₀ n r₀ out r = total - r
 
 stations-requires : tie.Need-stations-requires Inv-loop μ-loop
-stations-requires c κs = search needs
+stations-requires c κs = omega arith
 
 loop-holds : tie.Need-loop-holds Inv-loop μ-loop
 loop-holds c = (omega arith, refl, tab-none _ _)
@@ -30,16 +29,16 @@ level-cell-requires c κs =
     (h, g, omega (arith, b .stations .ensures .0), omega arith)
 
 mul-out : tie.Need-mul-out Inv-loop μ-loop
-mul-out c = search needs
+mul-out c = omega arith
 
 slice-write-out : tie.Need-slice-write-out Inv-loop μ-loop
-slice-write-out c = search needs
+slice-write-out c = omega arith
 
 add-r : tie.Need-add-r Inv-loop μ-loop
-add-r c = search needs
+add-r c = omega arith
 
 loop-less : tie.Need-loop-less Inv-loop μ-loop
-loop-less c = search needs
+loop-less c = omega arith
 
 loop-again : tie.Need-loop-again Inv-loop μ-loop
 loop-again c =

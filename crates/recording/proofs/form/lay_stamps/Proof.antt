@@ -4,7 +4,6 @@ use mathlib.Core.List.{_++_}
 use Prim.Native.Nat.{ℕ, _-_, _*_, _≤_}
 use native.Mathlib.Omega.{arith}
 use lib.ListN.{length, drop, length-set}
-use borrow.Author.Needs.{needs}
 use Rattle.cuts.specs.Below.{tab}
 use Rattle.cuts.proofs.TabLaws.{tab-none, tab-more, tab-front}
 use Rattle.recording.specs.Decode.{stampCell}
@@ -19,13 +18,13 @@ abbrev μ-loop : tie.MeasureT-loop
 μ-loop lead w s out₀ n end j₀ out j = end - j
 
 stations-requires : tie.Need-stations-requires Inv-loop μ-loop
-stations-requires c κs = search needs
+stations-requires c κs = omega arith
 
 total-requires : tie.Need-total-requires Inv-loop μ-loop
-total-requires c κs = search needs
+total-requires c κs = omega arith
 
 mul-end : tie.Need-mul-end Inv-loop μ-loop
-mul-end c = search needs
+mul-end c = omega arith
 
 loop-holds : tie.Need-loop-holds Inv-loop μ-loop
 loop-holds c = (omega arith, refl, tab-none _ _)
@@ -37,16 +36,16 @@ stamp-cell-requires c κs =
     (h, g, omega (arith, b .stations .ensures .0), omega arith)
 
 mul-out : tie.Need-mul-out Inv-loop μ-loop
-mul-out c = search needs
+mul-out c = omega arith
 
 slice-write-out : tie.Need-slice-write-out Inv-loop μ-loop
-slice-write-out c = search needs
+slice-write-out c = omega arith
 
 add-j : tie.Need-add-j Inv-loop μ-loop
-add-j c = search needs
+add-j c = omega arith
 
 loop-less : tie.Need-loop-less Inv-loop μ-loop
-loop-less c = search needs
+loop-less c = omega arith
 
 loop-again : tie.Need-loop-again Inv-loop μ-loop
 loop-again c =

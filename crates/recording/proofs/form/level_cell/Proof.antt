@@ -6,24 +6,23 @@ use Rattle.levels.specs.Level.{excessOf}
 use Rattle.recording.specs.Form.{levelAt}
 use Rattle.recording.specs.Decode.{levelCell}
 use Rattle.recording.proofs.PlaceLaws.{peeked-read}
-use borrow.Author.Needs.{needs}
 use Rattle.recording.proofs.form.level_cell.Statement.{statement}
 use Rattle.recording.proofs.form.level_cell.Tie as tie
 
 record-bit-requires : tie.Need-record-bit-requires
-record-bit-requires c κs = search needs
+record-bit-requires c κs = omega arith
 
 add-peek : tie.Need-add-peek
-add-peek c = search needs
+add-peek c = omega arith
 
 add-peek-2 : tie.Need-add-peek-2
-add-peek-2 c = search needs
+add-peek-2 c = omega arith
 
 peek-requires : tie.Need-peek-requires
-peek-requires c κs = search needs
+peek-requires c κs = tt
 
 excess-requires : tie.Need-excess-requires
-excess-requires c κs = search needs
+excess-requires c κs = tt
 
 returns : tie.Need-returns
 unfolding levelCell levelAt

@@ -2,18 +2,17 @@
 use mathlib.Core.Path.{refl, _∙_}
 use native.Mathlib.Omega.{arith}
 use Rattle.recording.proofs.PlaceLaws.{peeked-read}
-use borrow.Author.Needs.{needs}
 use Rattle.recording.proofs.form.number.Statement.{statement}
 use Rattle.recording.proofs.form.number.Tie as tie
 
 add-peek : tie.Need-add-peek
-add-peek c = search needs
+add-peek c = omega arith
 
 peek-requires : tie.Need-peek-requires
-peek-requires c κs = search needs
+peek-requires c κs = tt
 
 wide-requires : tie.Need-wide-requires
-wide-requires c κs = search needs
+wide-requires c κs = tt
 
 returns : tie.Need-returns
 returns c = c .wide .ensures .0 ∙ peeked-read _ _ _ _ 9 _ (c .before .peek .ensures) refl (omega arith) (omega arith) .0

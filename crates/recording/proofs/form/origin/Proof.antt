@@ -3,15 +3,14 @@ use mathlib.Core.Path.{refl, _∙_}
 use native.Mathlib.Nat.{mod-eq-of-lt}
 use native.Mathlib.Omega.{arith}
 use Rattle.recording.proofs.PlaceLaws.{peeked-read}
-use borrow.Author.Needs.{needs}
 use Rattle.recording.proofs.form.origin.Statement.{statement}
 use Rattle.recording.proofs.form.origin.Tie as tie
 
 peek-requires : tie.Need-peek-requires
-peek-requires c κs = search needs
+peek-requires c κs = tt
 
 cast-result : tie.Need-cast-result
-cast-result c = search needs
+cast-result c = omega arith
 
 returns : tie.Need-returns
 returns c =

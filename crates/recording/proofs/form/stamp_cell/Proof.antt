@@ -6,18 +6,17 @@ use native.Mathlib.Omega.{arith}
 use Rattle.recording.specs.Form.{countAt}
 use Rattle.recording.proofs.PlaceLaws.{counts-le, peeked-read}
 use Rattle.recording.proofs.DecodeLaws.{stampCell-in, stampCell-beyond}
-use borrow.Author.Needs.{needs}
 use Rattle.recording.proofs.form.stamp_cell.Statement.{statement}
 use Rattle.recording.proofs.form.stamp_cell.Tie as tie
 
 record-bit-requires : tie.Need-record-bit-requires
-record-bit-requires c κs = search needs
+record-bit-requires c κs = omega arith
 
 add-peek : tie.Need-add-peek
-add-peek c = search needs
+add-peek c = omega arith
 
 add-peek-2 : tie.Need-add-peek-2
-add-peek-2 c = search needs
+add-peek-2 c = omega arith
 
 mul-peek : tie.Need-mul-peek
 mul-peek c = let A = c .before .before .before .args in omega (arith, counts-le (A .w) (A .j % 8) (omega arith) (omega arith))
@@ -26,7 +25,7 @@ add-peek-3 : tie.Need-add-peek-3
 add-peek-3 c = let A = c .before .before .before .args in omega (arith, counts-le (A .w) (A .j % 8) (omega arith) (omega arith))
 
 peek-requires : tie.Need-peek-requires
-peek-requires c κs = search needs
+peek-requires c κs = tt
 
 returns : tie.Need-returns
 unfolding countAt

@@ -5,21 +5,20 @@ use native.Mathlib.Omega.{arith}
 use Rattle.levels.specs.Level.{excessOf}
 use Rattle.recording.proofs.PlaceLaws.{peeked-read}
 use Rattle.recording.proofs.DecodeLaws.{startCell-in, startCell-beyond}
-use borrow.Author.Needs.{needs}
 use Rattle.recording.proofs.form.start.Statement.{statement}
 use Rattle.recording.proofs.form.start.Tie as tie
 
 station-bit-requires : tie.Need-station-bit-requires
-station-bit-requires c κs = search needs
+station-bit-requires c κs = omega arith
 
 add-peek : tie.Need-add-peek
-add-peek c = search needs
+add-peek c = omega arith
 
 peek-requires : tie.Need-peek-requires
-peek-requires c κs = search needs
+peek-requires c κs = tt
 
 excess-requires : tie.Need-excess-requires
-excess-requires c κs = search needs
+excess-requires c κs = tt
 
 returns : tie.Need-returns
 returns c =

@@ -1,20 +1,19 @@
 -- The last four leading bits are a field of four bits, below 16.
 use mathlib.Core.Path.{refl, _∙_}
 use native.Mathlib.Omega.{arith}
-use borrow.Author.Needs.{needs}
 use Rattle.recording.specs.Form.{nAt}
 use Rattle.recording.proofs.PlaceLaws.{peeked-read}
 use Rattle.recording.proofs.form.stations.Statement.{statement}
 use Rattle.recording.proofs.form.stations.Tie as tie
 
 sub-peek : tie.Need-sub-peek
-sub-peek c = search needs
+sub-peek c = omega arith
 
 peek-requires : tie.Need-peek-requires
-peek-requires c κs = search needs
+peek-requires c κs = tt
 
 wide-requires : tie.Need-wide-requires
-wide-requires c κs = search needs
+wide-requires c κs = tt
 
 returns : tie.Need-returns
 unfolding nAt

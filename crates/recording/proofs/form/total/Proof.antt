@@ -1,17 +1,17 @@
 -- T is the last of the nine.
+use native.Mathlib.Omega.{arith}
 use Rattle.recording.proofs.WholeLaws.{total-read}
-use borrow.Author.Needs.{needs}
 use Rattle.recording.proofs.form.total.Statement.{statement}
 use Rattle.recording.proofs.form.total.Tie as tie
 
 stations-requires : tie.Need-stations-requires
-stations-requires c κs = search needs
+stations-requires c κs = omega arith
 
 firsts-requires : tie.Need-firsts-requires
-firsts-requires c κs = search needs
+firsts-requires c κs = omega arith
 
 array-read-result : tie.Need-array-read-result
-array-read-result c = search needs
+array-read-result c = omega arith
 
 returns : tie.Need-returns
 returns c =

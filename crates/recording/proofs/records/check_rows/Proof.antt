@@ -1,13 +1,13 @@
 -- The whole is tested first; where it has no fault n is 1 to 8, the table of stamps is laid, and the checks of the records follow.
 use mathlib.Core.Path.{sym, _∙_}
+use native.Mathlib.Omega.{arith}
 use Rattle.recording.proofs.WholeLaws.{formFault-lt, formFault-stations, checkedOf-fault, checkedOf-records}
 use Rattle.recording.proofs.FaultLaws.{checkedBy-whole}
-use borrow.Author.Needs.{needs}
 use Rattle.recording.proofs.records.check_rows.Statement.{statement}
 use Rattle.recording.proofs.records.check_rows.Tie as tie
 
 form-fault-requires : tie.Need-form-fault-requires
-form-fault-requires c κs = search needs
+form-fault-requires c κs = omega arith
 
 returns : tie.Need-returns
 returns c =
@@ -25,7 +25,7 @@ scan-stations-requires c κs =
     (f, h, l, g, formFault-stations _ _ _ (sym (c .before .before .before .before .before .before .form-fault .ensures) ∙ c .before .before .before .before .before .if1 .left) .0, c .before .before .before .lay-stamps .ensures)
 
 same-length : tie.Need-same-length
-same-length c = search needs
+same-length c = omega arith
 
 returns-2 : tie.Need-returns-2
 returns-2 c = record { reply = c .scan-stations .ensures ∙ checkedOf-records _ _ _ (sym (c .before .before .before .before .before .before .before .form-fault .ensures) ∙ c .before .before .before .before .before .before .if1 .left); laid = λ z. c .before .before .before .before .lay-stamps .ensures }

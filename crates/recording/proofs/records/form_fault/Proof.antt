@@ -2,21 +2,20 @@
 use mathlib.Core.Path.{sym, _∙_}
 use native.Mathlib.Omega.{arith}
 use Rattle.recording.proofs.WholeLaws.{head-read, form-head, form-end, head-stations, end-read}
-use borrow.Author.Needs.{needs}
 use Rattle.recording.proofs.records.form_fault.Statement.{statement}
 use Rattle.recording.proofs.records.form_fault.Tie as tie
 
 stations-requires : tie.Need-stations-requires
-stations-requires c κs = search needs
+stations-requires c κs = omega arith
 
 station-bit-requires : tie.Need-station-bit-requires
-station-bit-requires c κs = search needs
+station-bit-requires c κs = omega arith
 
 bytes-for-requires : tie.Need-bytes-for-requires
-bytes-for-requires c κs = search needs
+bytes-for-requires c κs = omega arith
 
 head-fault-requires : tie.Need-head-fault-requires
-head-fault-requires c κs = search needs
+head-fault-requires c κs = tt
 
 returns : tie.Need-returns
 returns c =
@@ -42,7 +41,7 @@ record-bit-requires c κs =
     (omega arith, omega arith, omega (arith, n .ensures .0, k), omega arith)
 
 end-fault-requires : tie.Need-end-fault-requires
-end-fault-requires c κs = search needs
+end-fault-requires c κs = omega arith
 
 returns-2 : tie.Need-returns-2
 returns-2 c =

@@ -1,29 +1,28 @@
 -- The number is the sum of its three parts, which 16 bits hold.
 use native.Mathlib.Omega.{arith}
-use borrow.Author.Needs.{needs}
 use Rattle.recording.proofs.records.of_record.Statement.{statement}
 use Rattle.recording.proofs.records.of_record.Tie as tie
 
 add-result : tie.Need-add-result
-add-result c = search needs
+add-result c = omega arith
 
 mul-result : tie.Need-mul-result
-mul-result c = search needs
+mul-result c = omega arith
 
 add-result-2 : tie.Need-add-result-2
-add-result-2 c = search needs
+add-result-2 c = omega arith
 
 mul-result-2 : tie.Need-mul-result-2
-mul-result-2 c = search needs
+mul-result-2 c = omega arith
 
 add-result-3 : tie.Need-add-result-3
-add-result-3 c = search needs
+add-result-3 c = omega arith
 
 add-result-4 : tie.Need-add-result-4
-add-result-4 c = search needs
+add-result-4 c = omega arith
 
 cast-result : tie.Need-cast-result
-cast-result c = search needs
+cast-result c = omega arith
 
 returns : tie.Need-returns
 returns c = omega arith

@@ -1,15 +1,15 @@
 -- The parts are read off the number.
 use mathlib.Core.Path.{refl}
+use native.Mathlib.Omega.{arith}
 use Rattle.recording.specs.Fault.{refusalBy}
-use borrow.Author.Needs.{needs}
 use Rattle.recording.proofs.records.refusal.Statement.{statement}
 use Rattle.recording.proofs.records.refusal.Tie as tie
 
 cast-t3 : tie.Need-cast-t3
-cast-t3 c = search needs
+cast-t3 c = omega arith
 
 cast-t5 : tie.Need-cast-t5
-cast-t5 c = search needs
+cast-t5 c = omega arith
 
 returns : tie.Need-returns
 unfolding refusalBy

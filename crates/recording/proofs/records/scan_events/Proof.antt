@@ -2,7 +2,6 @@
 use mathlib.Core.Path.{_≡_, sym, ap, _∙_}
 use Prim.Native.Nat.{_-_, _≤_}
 use native.Mathlib.Omega.{arith}
-use borrow.Author.Needs.{needs}
 use Rattle.recording.specs.Form.{recordingOf}
 use Rattle.recording.specs.Check.{scanTo}
 use Rattle.recording.specs.Fault.{checkedRecord, checkedStation, checkedBy}
@@ -23,10 +22,10 @@ mul-wide : tie.Need-mul-wide Inv-loop μ-loop
 mul-wide c = omega (arith, c .before .before .pre .3 .n-most)
 
 array-read-wide : tie.Need-array-read-wide Inv-loop μ-loop
-array-read-wide c = search needs
+array-read-wide c = omega arith
 
 wide-requires : tie.Need-wide-requires Inv-loop μ-loop
-wide-requires c κs = search needs
+wide-requires c κs = tt
 
 loop-holds : tie.Need-loop-holds Inv-loop μ-loop
 loop-holds c = (omega arith, scan-none _)
@@ -35,7 +34,7 @@ mul-record-bit : tie.Need-mul-record-bit Inv-loop μ-loop
 mul-record-bit c = omega (arith, c .before .before .before .before .before .pre .3 .n-most)
 
 array-read-record-bit : tie.Need-array-read-record-bit Inv-loop μ-loop
-array-read-record-bit c = search needs
+array-read-record-bit c = omega arith
 
 add-record-bit : tie.Need-add-record-bit Inv-loop μ-loop
 add-record-bit c =
@@ -56,7 +55,7 @@ number-requires : tie.Need-number-requires Inv-loop μ-loop
 number-requires c κs = (c .before .before .before .before .before .before .before .pre .2, c .before .record-bit .ensures .1)
 
 message-fault-requires : tie.Need-message-fault-requires Inv-loop μ-loop
-message-fault-requires c κs = search needs
+message-fault-requires c κs = tt
 
 of-record-requires : tie.Need-of-record-requires Inv-loop μ-loop
 of-record-requires c κs =
@@ -80,10 +79,10 @@ returns c =
     ∙ sym (scan-found _ _ _ _ (omega (arith, r .before .loop-test .taken, W .wide .ensures .0, m-read laid _ hp)) (r .before .before .loop .inv .1) (checkedRecord-fault _ _ _ _ f (c .before .if1 .taken)))
 
 add-e : tie.Need-add-e Inv-loop μ-loop
-add-e c = search needs
+add-e c = omega arith
 
 loop-less : tie.Need-loop-less Inv-loop μ-loop
-loop-less c = search needs
+loop-less c = omega arith
 
 loop-again : tie.Need-loop-again Inv-loop μ-loop
 loop-again c =

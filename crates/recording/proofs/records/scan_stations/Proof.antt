@@ -2,7 +2,6 @@
 use mathlib.Core.Path.{_≡_, sym, ap, _∙_}
 use Prim.Native.Nat.{_-_, _≤_}
 use native.Mathlib.Omega.{arith}
-use borrow.Author.Needs.{needs}
 use Rattle.recording.specs.Form.{recordingOf}
 use Rattle.recording.specs.Check.{scanTo}
 use Rattle.recording.specs.Fault.{checkedStation, checkedBy}
@@ -21,13 +20,13 @@ abbrev μ-loop : tie.MeasureT-loop
 μ-loop lead w s rows n m firsts p₀ p = n - p
 
 stations-requires : tie.Need-stations-requires Inv-loop μ-loop
-stations-requires c κs = search needs
+stations-requires c κs = omega arith
 
 counts-requires : tie.Need-counts-requires Inv-loop μ-loop
-counts-requires c κs = search needs
+counts-requires c κs = omega arith
 
 firsts-requires : tie.Need-firsts-requires Inv-loop μ-loop
-firsts-requires c κs = search needs
+firsts-requires c κs = omega arith
 
 loop-holds : tie.Need-loop-holds Inv-loop μ-loop
 loop-holds c = (omega arith, scan-none _)
@@ -48,10 +47,10 @@ returns c =
     x ∙ sym (checkedRecords-scan _ ∙ scan-found _ _ _ _ (omega (arith, b .before .loop-test .taken, n-read laid)) (b .before .before .loop .inv .1) (sym (b .scan-events .ensures) ∙ x))
 
 add-p : tie.Need-add-p Inv-loop μ-loop
-add-p c = search needs
+add-p c = omega arith
 
 loop-less : tie.Need-loop-less Inv-loop μ-loop
-loop-less c = search needs
+loop-less c = omega arith
 
 loop-again : tie.Need-loop-again Inv-loop μ-loop
 loop-again c =
