@@ -23,31 +23,31 @@ unfolding sumTo
 loop-holds c = (omega arith, refl, omega arith)
 
 mul-weigh : tie.Need-mul-weigh Inv-loop μ-loop
-mul-weigh c = search needs
+mul-weigh c = omega arith
 
 array-read-weigh : tie.Need-array-read-weigh Inv-loop μ-loop
-array-read-weigh c = search needs
+array-read-weigh c = omega arith
 
 weigh-requires : tie.Need-weigh-requires Inv-loop μ-loop
-weigh-requires c κs = search needs
+weigh-requires c κs = tt
 
 cast-sum : tie.Need-cast-sum Inv-loop μ-loop
-cast-sum c = search needs
+cast-sum c = omega arith
 
 add-sum : tie.Need-add-sum Inv-loop μ-loop
-add-sum c = search needs
+add-sum c = omega arith
 
 add-p : tie.Need-add-p Inv-loop μ-loop
-add-p c = search needs
+add-p c = omega arith
 
 loop-less : tie.Need-loop-less Inv-loop μ-loop
-loop-less c = search needs
+loop-less c = omega arith
 
 loop-again : tie.Need-loop-again Inv-loop μ-loop
 loop-again c = (omega arith, sum-more _ _ _ _ (c .before .before .loop .inv .1) (c .weigh .ensures), search needs)
 
 limits-of-requires : tie.Need-limits-of-requires Inv-loop μ-loop
-limits-of-requires c κs = search needs
+limits-of-requires c κs = tt
 
 returns : tie.Need-returns Inv-loop μ-loop
 returns c =

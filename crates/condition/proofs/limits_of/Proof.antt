@@ -1,54 +1,54 @@
 -- Each kind has its own limits.
 use mathlib.Core.Path.{refl}
+use native.Mathlib.Omega.{arith}
 use Rattle.condition.specs.Weigh.{askedOf, limitsOf, limitsBy}
-use borrow.Author.Needs.{needs}
 use Rattle.condition.proofs.limits_of.Statement.{statement}
 use Rattle.condition.proofs.limits_of.Tie as tie
 
 asked-requires : tie.Need-asked-requires
-asked-requires c κs = search needs
+asked-requires c κs = tt
 
 enum-told : tie.Need-enum-told
-enum-told c = search needs
+enum-told c = omega arith
 
 add-t8 : tie.Need-add-t8
-add-t8 c = search needs
+add-t8 c = omega arith
 
 add-t9 : tie.Need-add-t9
-add-t9 c = search needs
+add-t9 c = omega arith
 
 enum-known-kind : tie.Need-enum-known-kind
-enum-known-kind c = search needs
+enum-known-kind c = omega arith
 
 cast-t10 : tie.Need-cast-t10
-cast-t10 c = search needs
+cast-t10 c = omega arith
 
 add-t11 : tie.Need-add-t11
-add-t11 c = search needs
+add-t11 c = omega arith
 
 add-t12 : tie.Need-add-t12
-add-t12 c = search needs
+add-t12 c = omega arith
 
 enum-known-kind-2 : tie.Need-enum-known-kind-2
-enum-known-kind-2 c = search needs
+enum-known-kind-2 c = omega arith
 
 cast-t13 : tie.Need-cast-t13
-cast-t13 c = search needs
+cast-t13 c = omega arith
 
 mul-t14 : tie.Need-mul-t14
-mul-t14 c = search needs
+mul-t14 c = omega arith
 
 add-t15 : tie.Need-add-t15
-add-t15 c = search needs
+add-t15 c = omega arith
 
 cast-t16 : tie.Need-cast-t16
-cast-t16 c = search needs
+cast-t16 c = omega arith
 
 mul-t17 : tie.Need-mul-t17
-mul-t17 c = search needs
+mul-t17 c = omega arith
 
 add-t18 : tie.Need-add-t18
-add-t18 c = search needs
+add-t18 c = omega arith
 
 returns : tie.Need-returns
 unfolding limitsOf limitsBy askedOf

@@ -1,8 +1,8 @@
 -- A station that is not there or not asked adds nothing; what an asked one adds goes by the kind.
 use mathlib.Core.Path.{sym}
+use native.Mathlib.Omega.{arith}
 use borrow.Author.Tests.{not-true, not-false}
 use Rattle.condition.proofs.WeighLaws.{eight-windows, unasked-beyond, weigh-unasked, weigh-inside, weigh-sum}
-use borrow.Author.Needs.{needs}
 use Rattle.condition.proofs.weigh.Statement.{statement}
 use Rattle.condition.proofs.weigh.Tie as tie
 
@@ -10,22 +10,22 @@ returns : tie.Need-returns
 returns c = sym (weigh-unasked _ _ _ (unasked-beyond (c .before .args .t1) _ (eight-windows (c .before .args .t1) _ (c .before .good .0)) (c .if1 .taken)))
 
 mul-window : tie.Need-mul-window
-mul-window c = search needs
+mul-window c = omega arith
 
 element-copy-out-window : tie.Need-element-copy-out-window
-element-copy-out-window c = search needs
+element-copy-out-window c = omega arith
 
 returns-2 : tie.Need-returns-2
 returns-2 c = sym (weigh-unasked _ _ _ (not-true _ (c .if2 .taken)))
 
 enum-told : tie.Need-enum-told
-enum-told c = search needs
+enum-told c = omega arith
 
 is-inside-requires : tie.Need-is-inside-requires
-is-inside-requires c κs = search needs
+is-inside-requires c κs = tt
 
 one-if-requires : tie.Need-one-if-requires
-one-if-requires c κs = search needs
+one-if-requires c κs = tt
 
 returns-3 : tie.Need-returns-3
 returns-3 c = sym (weigh-sum _ _ _ (c .enum-told .given .1) (not-false _ (c .before .before .if2 .left)))

@@ -1,15 +1,15 @@
 -- Each way out is one law: refused by the condition, by the recording, by the rooms; or the verdicts.
 use mathlib.Core.Path.{refl}
-use borrow.Author.Needs.{needs}
+use native.Mathlib.Omega.{arith}
 use Rattle.engine.proofs.JudgeLaws.{part-is, not-third, refused-condition, job-long, refused-recording, refused-room, settled, judged}
 use Rattle.engine.proofs.judge.Statement.{statement}
 use Rattle.engine.proofs.judge.Tie as tie
 
 read-requires : tie.Need-read-requires
-read-requires c κs = search needs
+read-requires c κs = tt
 
 refused-wholly-requires : tie.Need-refused-wholly-requires
-refused-wholly-requires c κs = search needs
+refused-wholly-requires c κs = tt
 
 returns : tie.Need-returns
 returns c =
@@ -23,22 +23,22 @@ part-s-start : tie.Need-part-s-start
 part-s-start c = job-long _ _ (c .before .before .before .read .ensures) (c .before .if1 .left)
 
 part-s-end : tie.Need-part-s-end
-part-s-end c = search needs
+part-s-end c = omega arith
 
 slice-aggregate-decode : tie.Need-slice-aggregate-decode
-slice-aggregate-decode c = search needs
+slice-aggregate-decode c = omega arith
 
 slice-aggregate-decode-2 : tie.Need-slice-aggregate-decode-2
-slice-aggregate-decode-2 c = search needs
+slice-aggregate-decode-2 c = omega arith
 
 decode-requires : tie.Need-decode-requires
-decode-requires c κs = search needs
+decode-requires c κs = tt
 
 enum-known-d : tie.Need-enum-known-d
-enum-known-d c = search needs
+enum-known-d c = omega arith
 
 refused-requires : tie.Need-refused-requires
-refused-requires c κs = search needs
+refused-requires c κs = tt
 
 returns-2 : tie.Need-returns-2
 returns-2 c =
@@ -47,13 +47,13 @@ returns-2 c =
     refused-recording _ _ _ _ (E .before .before .read .ensures) (E .if1 .left) _ _ _ _ _ _ (part-is _) (D .decode .ensures) _ _ (c .before .before .d .given .1) (c .refused .ensures)
 
 full-cut-requires : tie.Need-full-cut-requires
-full-cut-requires c κs = search needs
+full-cut-requires c κs = tt
 
 fault-requires : tie.Need-fault-requires
-fault-requires c κs = search needs
+fault-requires c κs = tt
 
 refused-wholly-requires-2 : tie.Need-refused-wholly-requires-2
-refused-wholly-requires-2 c κs = search needs
+refused-wholly-requires-2 c κs = tt
 
 returns-3 : tie.Need-returns-3
 returns-3 c =
@@ -65,10 +65,10 @@ returns-3 c =
     refused-room _ _ _ _ (E .before .before .read .ensures) (E .if1 .left) _ _ _ _ _ _ (part-is _) (D .decode .ensures) (λ x e. not-third (rw e at (M .match .keys2))) _ (K .before .full-cut .ensures) _ (K .fault .ensures) _ (T .if2 .taken) (c .refused-wholly2 .ensures)
 
 slice-aggregate-verdicts : tie.Need-slice-aggregate-verdicts
-slice-aggregate-verdicts c = search needs
+slice-aggregate-verdicts c = omega arith
 
 slice-aggregate-verdicts-2 : tie.Need-slice-aggregate-verdicts-2
-slice-aggregate-verdicts-2 c = search needs
+slice-aggregate-verdicts-2 c = omega arith
 
 verdicts-requires : tie.Need-verdicts-requires
 verdicts-requires c κs =
@@ -81,10 +81,10 @@ verdicts-requires c κs =
     settled _ (a .marks .now) (a .path .now) _ (E .before .before .read .ensures) (E .if1 .left) _ _ _ _ _ _ (part-is _) (D .decode .ensures) (λ x e. not-third (rw e at (M .match .keys2))) _ (K .before .full-cut .ensures) _ (K .fault .ensures) (T .if2 .left) refl refl
 
 same-length : tie.Need-same-length
-same-length c = search needs
+same-length c = omega arith
 
 same-length-2 : tie.Need-same-length-2
-same-length-2 c = search needs
+same-length-2 c = omega arith
 
 returns-4 : tie.Need-returns-4
 returns-4 c =

@@ -6,7 +6,6 @@ use native.Mathlib.Nat.{le-antisymm}
 use native.Mathlib.Omega.{arith}
 use lib.IntN.{pos}
 use lib.ListN.{getD}
-use borrow.Author.Needs.{needs}
 use borrow.Author.Tests.{not-true, not-false}
 use Rattle.levels.specs.Level.{isLevel}
 use Rattle.cuts.specs.Below.{every}
@@ -26,10 +25,10 @@ unfolding every
 loop-holds c = (omega arith, refl)
 
 level-at-requires : tie.Need-level-at-requires Inv-loop μ-loop
-level-at-requires c κs = search needs
+level-at-requires c κs = tt
 
 is-level-requires : tie.Need-is-level-requires Inv-loop μ-loop
-is-level-requires c κs = search needs
+is-level-requires c κs = tt
 
 returns : tie.Need-returns Inv-loop μ-loop
 returns c =
@@ -37,10 +36,10 @@ returns c =
     sym (every-false _ _ _ (a .before .loop-test .taken) (sym (rw (held-signed _ (a .level-at .ok), a .level-at .ensures) at (c .before .is-level .ensures)) ∙ not-true _ (c .if1 .taken)))
 
 add-p : tie.Need-add-p Inv-loop μ-loop
-add-p c = search needs
+add-p c = omega arith
 
 loop-less : tie.Need-loop-less Inv-loop μ-loop
-loop-less c = search needs
+loop-less c = omega arith
 
 loop-again : tie.Need-loop-again Inv-loop μ-loop
 loop-again c =

@@ -1,13 +1,12 @@
 -- It is the definition's sum and quotient, and the bits are too few for the sum to wrap.
 use mathlib.Core.Path.{refl}
 use native.Mathlib.Omega.{arith}
-use borrow.Author.Needs.{needs}
 use Rattle.recording.specs.Form.{bytesFor}
 use Rattle.writer.proofs.bytes_for.Statement.{statement}
 use Rattle.writer.proofs.bytes_for.Tie as tie
 
 add-result : tie.Need-add-result
-add-result c = search needs
+add-result c = omega arith
 
 returns : tie.Need-returns
 unfolding bytesFor

@@ -3,7 +3,6 @@ use mathlib.Core.Path.{ap, _∙_}
 use Prim.Native.Nat.{ℕ, _≤_}
 use native.Mathlib.Omega.{arith}
 use lib.ListN.{length-replicate}
-use borrow.Author.Needs.{needs}
 use Rattle.recording.specs.declared.Checked.{Checked}
 use Rattle.writer.proofs.GivenLaws.{rows-enough}
 use Rattle.writer.proofs.GivenRight.{scan-right}
@@ -12,10 +11,10 @@ use Rattle.writer.proofs.check_lists.Statement.{statement}
 use Rattle.writer.proofs.check_lists.Tie as tie
 
 whole-fault-requires : tie.Need-whole-fault-requires
-whole-fault-requires c κs = search needs
+whole-fault-requires c κs = tt
 
 whole-requires : tie.Need-whole-requires
-whole-requires c κs = search needs
+whole-requires c κs = tt
 
 returns : tie.Need-returns
 returns c = ap Checked.Refused (c .whole .ensures) ∙ lists-whole _ _ (c .before .before .whole-fault .ensures) (c .before .if1 .taken)
@@ -25,10 +24,10 @@ most : (c : tie.Else1) → c .before .before .before .before .before .before .ar
 most c = whole-most _ _ (c .before .whole-fault .ensures) (c .if1 .left)
 
 counts-of-requires : tie.Need-counts-of-requires
-counts-of-requires c κs = search needs
+counts-of-requires c κs = tt
 
 firsts-of-requires : tie.Need-firsts-of-requires
-firsts-of-requires c κs = search needs
+firsts-of-requires c κs = tt
 
 mul-lay-given : tie.Need-mul-lay-given
 mul-lay-given c = omega (arith, most (c .before .before))
@@ -37,7 +36,7 @@ array-read-lay-given : tie.Need-array-read-lay-given
 array-read-lay-given c = omega (arith, most (c .before .before))
 
 slice-aggregate-lay-given : tie.Need-slice-aggregate-lay-given
-slice-aggregate-lay-given c = search needs
+slice-aggregate-lay-given c = omega arith
 
 lay-given-requires : tie.Need-lay-given-requires
 lay-given-requires c κs =
@@ -47,7 +46,7 @@ lay-given-requires c κs =
     (most z, omega (arith, t), rw (length-replicate {A = ℕ} 32704 0) (omega (arith, t)))
 
 slice-aggregate-scan-given : tie.Need-slice-aggregate-scan-given
-slice-aggregate-scan-given c = search needs
+slice-aggregate-scan-given c = omega arith
 
 scan-given-requires : tie.Need-scan-given-requires
 scan-given-requires c κs =

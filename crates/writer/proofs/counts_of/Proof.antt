@@ -4,7 +4,6 @@ use mathlib.Core.List.{_++_}
 use Prim.Native.Nat.{_-_, _≤_}
 use native.Mathlib.Omega.{arith}
 use lib.ListN.{length, drop}
-use borrow.Author.Needs.{needs}
 use Rattle.cuts.specs.Below.{tab}
 use Rattle.cuts.specs.Cut.{at}
 use Rattle.cuts.proofs.TabLaws.{tab-none, tab-more, tab-full}
@@ -21,19 +20,19 @@ loop-holds : tie.Need-loop-holds Inv-loop μ-loop
 loop-holds c = (omega arith, tab-none _ _, refl)
 
 count-at-requires : tie.Need-count-at-requires Inv-loop μ-loop
-count-at-requires c κs = search needs
+count-at-requires c κs = tt
 
 mul-m : tie.Need-mul-m Inv-loop μ-loop
-mul-m c = search needs
+mul-m c = omega arith
 
 array-write-m : tie.Need-array-write-m Inv-loop μ-loop
-array-write-m c = search needs
+array-write-m c = omega arith
 
 add-p : tie.Need-add-p Inv-loop μ-loop
-add-p c = search needs
+add-p c = omega arith
 
 loop-less : tie.Need-loop-less Inv-loop μ-loop
-loop-less c = search needs
+loop-less c = omega arith
 
 loop-again : tie.Need-loop-again Inv-loop μ-loop
 loop-again c = let L = c .before .before .loop in

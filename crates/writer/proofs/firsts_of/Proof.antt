@@ -4,7 +4,6 @@ use mathlib.Core.List.{_++_}
 use Prim.Native.Nat.{_-_, _*_, _≤_}
 use native.Mathlib.Omega.{arith}
 use lib.ListN.{length, drop}
-use borrow.Author.Needs.{needs}
 use Rattle.cuts.specs.Below.{sumTo, tab}
 use Rattle.cuts.specs.Cut.{at}
 use Rattle.cuts.proofs.BelowLaws.{sumTo-more}
@@ -24,25 +23,25 @@ unfolding sumTo
 loop-holds c = (omega arith, tab-none _ _, refl, refl, omega arith)
 
 mul-f : tie.Need-mul-f Inv-loop μ-loop
-mul-f c = search needs
+mul-f c = omega arith
 
 array-write-f : tie.Need-array-write-f Inv-loop μ-loop
-array-write-f c = search needs
+array-write-f c = omega arith
 
 count-at-requires : tie.Need-count-at-requires Inv-loop μ-loop
-count-at-requires c κs = search needs
+count-at-requires c κs = tt
 
 wide-requires : tie.Need-wide-requires Inv-loop μ-loop
-wide-requires c κs = search needs
+wide-requires c κs = tt
 
 add-before : tie.Need-add-before Inv-loop μ-loop
 add-before c = omega arith
 
 add-p : tie.Need-add-p Inv-loop μ-loop
-add-p c = search needs
+add-p c = omega arith
 
 loop-less : tie.Need-loop-less Inv-loop μ-loop
-loop-less c = search needs
+loop-less c = omega arith
 
 loop-again : tie.Need-loop-again Inv-loop μ-loop
 loop-again c = let L = c .before .before .before .loop in

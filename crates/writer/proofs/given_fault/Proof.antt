@@ -1,36 +1,36 @@
 -- The record's origin, number and level stand at its place in file order.
 use mathlib.Core.Path.{_∙_}
-use borrow.Author.Needs.{needs}
+use native.Mathlib.Omega.{arith}
 use Rattle.writer.proofs.WriterLaws.{held-signed, given-fault}
 use Rattle.writer.proofs.given_fault.Statement.{statement}
 use Rattle.writer.proofs.given_fault.Tie as tie
 
 mul-r : tie.Need-mul-r
-mul-r c = search needs
+mul-r c = omega arith
 
 array-read-r : tie.Need-array-read-r
-array-read-r c = search needs
+array-read-r c = omega arith
 
 add-r : tie.Need-add-r
-add-r c = search needs
+add-r c = omega arith
 
 byte-at-requires : tie.Need-byte-at-requires
-byte-at-requires c κs = search needs
+byte-at-requires c κs = tt
 
 number-at-requires : tie.Need-number-at-requires
-number-at-requires c κs = search needs
+number-at-requires c κs = tt
 
 wide-requires : tie.Need-wide-requires
-wide-requires c κs = search needs
+wide-requires c κs = tt
 
 message-fault-requires : tie.Need-message-fault-requires
-message-fault-requires c κs = search needs
+message-fault-requires c κs = tt
 
 level-at-requires : tie.Need-level-at-requires
-level-at-requires c κs = search needs
+level-at-requires c κs = tt
 
 with-level-requires : tie.Need-with-level-requires
-with-level-requires c κs = search needs
+with-level-requires c κs = tt
 
 returns : tie.Need-returns
 returns c =

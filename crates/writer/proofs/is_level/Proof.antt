@@ -1,19 +1,19 @@
 -- The levels' reply has a field exactly if the number is a level.
 use mathlib.Core.Path.{sym, _∙_}
+use native.Mathlib.Omega.{arith}
 use mir.Facts.{toZ-ofZ}
-use borrow.Author.Needs.{needs}
 use Rattle.writer.proofs.WriterLaws.{field-level, out-level}
 use Rattle.writer.proofs.is_level.Statement.{statement}
 use Rattle.writer.proofs.is_level.Tie as tie
 
 field-of-requires : tie.Need-field-of-requires
-field-of-requires c κs = search needs
+field-of-requires c κs = tt
 
 enum-told : tie.Need-enum-told
-enum-told c = search needs
+enum-told c = omega arith
 
 enum-told-2 : tie.Need-enum-told-2
-enum-told-2 c = search needs
+enum-told-2 c = omega arith
 
 returns : tie.Need-returns
 returns c = let a = c .before .before in sym (field-level _ _ (sym (rw (toZ-ofZ (a .before .fits .v)) at (a .field-of .ensures)) ∙ c .enum-told .given .1) .0)

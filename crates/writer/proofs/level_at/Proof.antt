@@ -1,5 +1,6 @@
 -- Past the end a list answers the default, 0.
 use mathlib.Core.Path.{sym}
+use native.Mathlib.Omega.{arith}
 use lib.IntN.{pos}
 use lib.ListN.{List·getD-eq-default}
 use denote.Ref.{now}
@@ -8,10 +9,10 @@ use Rattle.writer.proofs.level_at.Statement.{statement}
 use Rattle.writer.proofs.level_at.Tie as tie
 
 mul-result : tie.Need-mul-result
-mul-result c = search needs
+mul-result c = omega arith
 
 shared-slice-copy-out-result : tie.Need-shared-slice-copy-out-result
-shared-slice-copy-out-result c = search needs
+shared-slice-copy-out-result c = omega arith
 
 returns : tie.Need-returns
 returns c = search needs

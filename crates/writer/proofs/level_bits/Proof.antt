@@ -1,19 +1,19 @@
 -- The levels' reply has the 12 bits of a level, and none for any other number.
 use mathlib.Core.Path.{sym, _∙_}
+use native.Mathlib.Omega.{arith}
 use mir.Facts.{toZ-ofZ}
-use borrow.Author.Needs.{needs}
 use Rattle.writer.proofs.WriterLaws.{field-level, out-level}
 use Rattle.writer.proofs.level_bits.Statement.{statement}
 use Rattle.writer.proofs.level_bits.Tie as tie
 
 field-of-requires : tie.Need-field-of-requires
-field-of-requires c κs = search needs
+field-of-requires c κs = tt
 
 enum-known-f : tie.Need-enum-known-f
-enum-known-f c = search needs
+enum-known-f c = omega arith
 
 enum-told : tie.Need-enum-told
-enum-told c = search needs
+enum-told c = omega arith
 
 returns : tie.Need-returns
 returns c = let a = c .before .before .before in sym (field-level _ _ (sym (rw (toZ-ofZ (a .before .fits .v)) at (a .field-of .ensures)) ∙ c .before .f .given .1) .1)

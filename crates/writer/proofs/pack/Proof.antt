@@ -1,6 +1,5 @@
 -- Where the room has the bytes needed, the parts are put one behind the other.
 use native.Mathlib.Omega.{arith}
-use borrow.Author.Needs.{needs}
 use Rattle.writer.specs.Write.{firstGiven}
 use Rattle.writer.proofs.GivenLaws.{first-is}
 use Rattle.writer.proofs.CheckedGiven.{placed-none, placed-all}
@@ -9,13 +8,13 @@ use Rattle.writer.proofs.pack.Statement.{statement}
 use Rattle.writer.proofs.pack.Tie as tie
 
 firsts-of-requires : tie.Need-firsts-of-requires
-firsts-of-requires c κs = search needs
+firsts-of-requires c κs = tt
 
 mul-total : tie.Need-mul-total
-mul-total c = search needs
+mul-total c = omega arith
 
 array-read-total : tie.Need-array-read-total
-array-read-total c = search needs
+array-read-total c = omega arith
 
 record-bit-requires : tie.Need-record-bit-requires
 record-bit-requires c κs =
@@ -23,10 +22,10 @@ record-bit-requires c κs =
     (a .pre .1, a .pre .2, a .pre .3, omega (arith, c .firsts-of .ensures .1 (a .args .n)))
 
 bytes-for-requires : tie.Need-bytes-for-requires
-bytes-for-requires c κs = search needs
+bytes-for-requires c κs = omega arith
 
 whole-requires : tie.Need-whole-requires
-whole-requires c κs = search needs
+whole-requires c κs = tt
 
 returns : tie.Need-returns
 unfolding firstGiven
@@ -38,7 +37,7 @@ returns c =
     placed-none _ _ _ _ _ _ _ first (b .before .record-bit .ensures .0) (b .bytes-for .ensures .0) (c .before .if1 .taken) (c .whole .ensures)
 
 put-stations-requires : tie.Need-put-stations-requires
-put-stations-requires c κs = search needs
+put-stations-requires c κs = omega arith
 
 put-records-requires : tie.Need-put-records-requires
 put-records-requires c κs =
@@ -47,10 +46,10 @@ put-records-requires c κs =
     (a .pre .1, a .pre .2, a .pre .3, omega (arith, f .firsts-of .ensures .1 (a .args .n)))
 
 put-padding-requires : tie.Need-put-padding-requires
-put-padding-requires c κs = search needs
+put-padding-requires c κs = omega arith
 
 same-length : tie.Need-same-length
-same-length c = search needs
+same-length c = omega arith
 
 returns-2 : tie.Need-returns-2
 unfolding firstGiven

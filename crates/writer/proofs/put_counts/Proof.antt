@@ -4,7 +4,6 @@ use Prim.Native.Nat.{_+_, _-_, _*_, _≤_}
 use native.Mathlib.Nat.{le-antisymm}
 use native.Mathlib.Omega.{arith}
 use lib.ListN.{length}
-use borrow.Author.Needs.{needs}
 use Rattle.cuts.specs.Cut.{at}
 use Rattle.writer.specs.Pack.{turns, putCount}
 use Rattle.recording.proofs.PlaceLaws.{counts-le}
@@ -32,16 +31,16 @@ add-put c =
     omega (arith, counts-le (L .before .before .before .args .w) (L .loop .q) (omega arith) (omega arith))
 
 stamp-at-requires : tie.Need-stamp-at-requires Inv-loop μ-loop
-stamp-at-requires c κs = search needs
+stamp-at-requires c κs = omega arith
 
 put-requires : tie.Need-put-requires Inv-loop μ-loop
-put-requires c κs = search needs
+put-requires c κs = tt
 
 add-q : tie.Need-add-q Inv-loop μ-loop
-add-q c = search needs
+add-q c = omega arith
 
 loop-less : tie.Need-loop-less Inv-loop μ-loop
-loop-less c = search needs
+loop-less c = omega arith
 
 loop-again : tie.Need-loop-again Inv-loop μ-loop
 loop-again c =

@@ -1,31 +1,31 @@
 -- The origin is put, the number and the level behind it as a pair, and the counts behind them.
 use mathlib.Core.Path.{refl, _∙_}
+use native.Mathlib.Omega.{arith}
 use mir.Facts.{toZ-ofZ}
-use borrow.Author.Needs.{needs}
 use Rattle.writer.specs.Pack.{putRecord, putStation}
 use Rattle.writer.proofs.put_record.Statement.{statement}
 use Rattle.writer.proofs.put_record.Tie as tie
 
 put-requires : tie.Need-put-requires
-put-requires c κs = search needs
+put-requires c κs = tt
 
 add-put-pair : tie.Need-add-put-pair
-add-put-pair c = search needs
+add-put-pair c = omega arith
 
 put-pair-requires : tie.Need-put-pair-requires
-put-pair-requires c κs = search needs
+put-pair-requires c κs = omega arith
 
 add-put-counts : tie.Need-add-put-counts
-add-put-counts c = search needs
+add-put-counts c = omega arith
 
 add-put-counts-2 : tie.Need-add-put-counts-2
-add-put-counts-2 c = search needs
+add-put-counts-2 c = omega arith
 
 put-counts-requires : tie.Need-put-counts-requires
-put-counts-requires c κs = search needs
+put-counts-requires c κs = omega arith
 
 same-length : tie.Need-same-length
-same-length c = search needs
+same-length c = omega arith
 
 returns : tie.Need-returns
 unfolding putRecord putStation

@@ -4,7 +4,6 @@ use Prim.Native.Nat.{_-_, _≤_}
 use native.Mathlib.Nat.{le-antisymm}
 use native.Mathlib.Omega.{arith}
 use lib.ListN.{length}
-use borrow.Author.Needs.{needs}
 use Rattle.writer.specs.Pack.{turns, stationTurn}
 use Rattle.writer.proofs.WriterLaws.{held-signed}
 use Rattle.writer.proofs.PackLaws.{turns-none, station-more}
@@ -18,34 +17,34 @@ abbrev μ-loop : tie.MeasureT-loop
 μ-loop room₀ lead w n counts starts p₀ room p = n - p
 
 sub-put : tie.Need-sub-put Inv-loop μ-loop
-sub-put c = search needs
+sub-put c = omega arith
 
 cast-put : tie.Need-cast-put Inv-loop μ-loop
-cast-put c = search needs
+cast-put c = omega arith
 
 put-requires : tie.Need-put-requires Inv-loop μ-loop
-put-requires c κs = search needs
+put-requires c κs = tt
 
 loop-holds : tie.Need-loop-holds Inv-loop μ-loop
 loop-holds c = (omega arith, refl, turns-none _ _)
 
 station-bit-requires : tie.Need-station-bit-requires Inv-loop μ-loop
-station-bit-requires c κs = search needs
+station-bit-requires c κs = omega arith
 
 count-at-requires : tie.Need-count-at-requires Inv-loop μ-loop
-count-at-requires c κs = search needs
+count-at-requires c κs = tt
 
 level-at-requires : tie.Need-level-at-requires Inv-loop μ-loop
-level-at-requires c κs = search needs
+level-at-requires c κs = tt
 
 put-pair-requires : tie.Need-put-pair-requires Inv-loop μ-loop
-put-pair-requires c κs = search needs
+put-pair-requires c κs = omega arith
 
 add-p : tie.Need-add-p Inv-loop μ-loop
-add-p c = search needs
+add-p c = omega arith
 
 loop-less : tie.Need-loop-less Inv-loop μ-loop
-loop-less c = search needs
+loop-less c = omega arith
 
 loop-again : tie.Need-loop-again Inv-loop μ-loop
 loop-again c =

@@ -2,20 +2,19 @@
 use mathlib.Core.Path.{ap}
 use Prim.Native.Nat.{ℕ, _+_, _*_}
 use native.Mathlib.Omega.{arith}
-use borrow.Author.Needs.{needs}
 use Rattle.recording.specs.Form.{recordBit, recordSize}
 use Rattle.recording.proofs.PlaceLaws.{counts-le, records-le}
 use Rattle.writer.proofs.record_bit.Statement.{statement}
 use Rattle.writer.proofs.record_bit.Tie as tie
 
 station-bit-requires : tie.Need-station-bit-requires
-station-bit-requires c κs = search needs
+station-bit-requires c κs = omega arith
 
 add-result : tie.Need-add-result
-add-result c = search needs
+add-result c = omega arith
 
 add-result-2 : tie.Need-add-result-2
-add-result-2 c = search needs
+add-result-2 c = omega arith
 
 mul-result : tie.Need-mul-result
 mul-result c = omega (arith, counts-le (c .before .args .w) (c .before .args .n) (omega arith) (omega arith))

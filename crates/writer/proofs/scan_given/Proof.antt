@@ -2,7 +2,6 @@
 use mathlib.Core.Path.{_≡_, sym, _∙_}
 use Prim.Native.Nat.{_-_, _≤_}
 use native.Mathlib.Omega.{arith}
-use borrow.Author.Needs.{needs}
 use Rattle.recording.specs.Check.{scanTo}
 use Rattle.writer.specs.Tables.{scanStation, scanGiven}
 use Rattle.recording.specs.declared.Checked.{Checked}
@@ -34,13 +33,13 @@ returns c =
     sym (scan-found _ _ _ _ (b .before .loop-test .taken) (b .before .before .loop .inv .1) (sym (b .scan-station .ensures) ∙ c .before .v .given .1))
 
 enum-told : tie.Need-enum-told Inv-loop μ-loop
-enum-told c = search needs
+enum-told c = omega arith
 
 add-p : tie.Need-add-p Inv-loop μ-loop
-add-p c = search needs
+add-p c = omega arith
 
 loop-less : tie.Need-loop-less Inv-loop μ-loop
-loop-less c = search needs
+loop-less c = omega arith
 
 loop-again : tie.Need-loop-again Inv-loop μ-loop
 loop-again c =

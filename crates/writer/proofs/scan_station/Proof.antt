@@ -2,7 +2,6 @@
 use mathlib.Core.Path.{_≡_}
 use Prim.Native.Nat.{_-_, _≤_}
 use native.Mathlib.Omega.{arith}
-use borrow.Author.Needs.{needs}
 use Rattle.recording.specs.Check.{atRecord, scanTo}
 use Rattle.writer.specs.Tables.{givenFault}
 use Rattle.recording.specs.declared.Checked.{Checked}
@@ -19,13 +18,13 @@ abbrev μ-loop : tie.MeasureT-loop
 μ-loop n firsts rows origins numbers levels p m count e₀ e = count - e
 
 mul-wide : tie.Need-mul-wide Inv-loop μ-loop
-mul-wide c = search needs
+mul-wide c = omega arith
 
 array-read-wide : tie.Need-array-read-wide Inv-loop μ-loop
-array-read-wide c = search needs
+array-read-wide c = omega arith
 
 wide-requires : tie.Need-wide-requires Inv-loop μ-loop
-wide-requires c κs = search needs
+wide-requires c κs = tt
 
 loop-holds : tie.Need-loop-holds Inv-loop μ-loop
 loop-holds c = (omega arith, scan-none _)
@@ -36,13 +35,13 @@ given-fault-requires c κs =
     (a .pre .0, a .pre .1, a .pre .2, omega (arith, a .pre .3 (a .args .p) (a .pre .1)))
 
 add-t19 : tie.Need-add-t19 Inv-loop μ-loop
-add-t19 c = search needs
+add-t19 c = omega arith
 
 cast-t20 : tie.Need-cast-t20 Inv-loop μ-loop
-cast-t20 c = search needs
+cast-t20 c = omega arith
 
 add-t21 : tie.Need-add-t21 Inv-loop μ-loop
-add-t21 c = search needs
+add-t21 c = omega arith
 
 cast-t22 : tie.Need-cast-t22 Inv-loop μ-loop
 cast-t22 c =
@@ -56,10 +55,10 @@ returns c =
     station-refused _ _ _ _ _ _ _ _ _ _ (L .before .wide .ensures .0) (L .loop .inv .1) _ (b .before .loop-test .taken) (given-refused _ _ _ _ _ _ _ _ _ _ (b .given-fault .ensures) (c .if1 .taken))
 
 add-e : tie.Need-add-e Inv-loop μ-loop
-add-e c = search needs
+add-e c = omega arith
 
 loop-less : tie.Need-loop-less Inv-loop μ-loop
-loop-less c = search needs
+loop-less c = omega arith
 
 loop-again : tie.Need-loop-again Inv-loop μ-loop
 loop-again c =

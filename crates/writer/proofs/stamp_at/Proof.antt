@@ -1,6 +1,5 @@
 -- Record r has n counts, so its count q stands at r * n + q.
 use native.Mathlib.Omega.{arith}
-use borrow.Author.Needs.{needs}
 use Rattle.writer.proofs.WriterLaws.{mul-under}
 use Rattle.writer.proofs.stamp_at.Statement.{statement}
 use Rattle.writer.proofs.stamp_at.Tie as tie
@@ -12,10 +11,10 @@ add-number-at : tie.Need-add-number-at
 add-number-at c = omega (arith, mul-under (c .before .args .r) (c .before .args .n) 4096 8 (omega arith) (omega arith))
 
 number-at-requires : tie.Need-number-at-requires
-number-at-requires c κs = search needs
+number-at-requires c κs = tt
 
 returns : tie.Need-returns
-returns c = search needs
+returns c = omega arith
 
 pub stamp-at-spec : {M : Type 1} → statement M
 stamp-at-spec = tie.close (tie.spec mul-number-at add-number-at number-at-requires returns)

@@ -1,14 +1,13 @@
 -- A station's part has at most 21 bits, so the sum is small, and it is the definition's.
 use mathlib.Core.Path.{refl}
 use native.Mathlib.Omega.{arith}
-use borrow.Author.Needs.{needs}
 use Rattle.recording.specs.Form.{stationBit}
 use Rattle.recording.proofs.PlaceLaws.{stations-le}
 use Rattle.writer.proofs.station_bit.Statement.{statement}
 use Rattle.writer.proofs.station_bit.Tie as tie
 
 add-result : tie.Need-add-result
-add-result c = search needs
+add-result c = omega arith
 
 mul-result : tie.Need-mul-result
 mul-result c = omega (arith, stations-le (c .args .w) (c .args .p) (omega arith) (omega arith))

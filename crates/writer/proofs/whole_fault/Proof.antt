@@ -1,6 +1,5 @@
 -- Each refusal is one of the tests before the records, made in their order.
 use native.Mathlib.Omega.{arith}
-use borrow.Author.Needs.{needs}
 use borrow.Author.Tests.{not-true, not-false}
 use Rattle.writer.proofs.WriterLaws.{mul-under}
 use Rattle.writer.proofs.GivenLaws.{fault-stations, fault-short, fault-long, fault-level, fault-none}
@@ -14,13 +13,13 @@ returns-2 : tie.Need-returns-2
 returns-2 c = fault-stations _ (λ l h. omega arith)
 
 firsts-of-requires : tie.Need-firsts-of-requires
-firsts-of-requires c κs = search needs
+firsts-of-requires c κs = tt
 
 mul-t : tie.Need-mul-t
-mul-t c = search needs
+mul-t c = omega arith
 
 array-read-t : tie.Need-array-read-t
-array-read-t c = search needs
+array-read-t c = omega arith
 
 mul-t14 : tie.Need-mul-t14
 mul-t14 c =
@@ -28,7 +27,7 @@ mul-t14 c =
     omega (arith, mul-under _ n 2040 8 (c .firsts-of .ensures .1 n) (c .before .if2 .left))
 
 each-within-requires : tie.Need-each-within-requires
-each-within-requires c κs = search needs
+each-within-requires c κs = tt
 
 returns-3 : tie.Need-returns-3
 returns-3 c =
@@ -37,7 +36,7 @@ returns-3 c =
     fault-short _ (b .before .if1 .left) (b .if2 .left) _ (a .firsts-of .ensures .0) _ (c .before .each-within .ensures) (not-true _ (c .if3 .taken))
 
 each-within-requires-2 : tie.Need-each-within-requires-2
-each-within-requires-2 c κs = search needs
+each-within-requires-2 c κs = tt
 
 returns-4 : tie.Need-returns-4
 returns-4 c =
@@ -47,7 +46,7 @@ returns-4 c =
     fault-long _ (b .before .if1 .left) (b .if2 .left) _ (a .firsts-of .ensures .0) _ (d .before .each-within .ensures) (not-false _ (d .if3 .left)) _ (c .before .each-within2 .ensures) (not-true _ (c .if4 .taken))
 
 are-levels-requires : tie.Need-are-levels-requires
-are-levels-requires c κs = search needs
+are-levels-requires c κs = tt
 
 returns-5 : tie.Need-returns-5
 returns-5 c =

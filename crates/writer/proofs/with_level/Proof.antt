@@ -2,7 +2,6 @@
 use mathlib.Core.Path.{sym, _∙_}
 use mathlib.Core.Logic.{inl, inr}
 use mir.Facts.{toZ-ofZ}
-use borrow.Author.Needs.{needs}
 use Rattle.writer.proofs.WriterLaws.{level-after, level-passes, level-fails}
 use Rattle.writer.proofs.with_level.Statement.{statement}
 use Rattle.writer.proofs.with_level.Tie as tie
@@ -14,7 +13,7 @@ returns-2 : tie.Need-returns-2
 returns-2 c = level-after _ _ (inr (c .if2 .taken))
 
 is-level-requires : tie.Need-is-level-requires
-is-level-requires c κs = search needs
+is-level-requires c κs = tt
 
 returns-3 : tie.Need-returns-3
 returns-3 c = level-passes _ _ (sym (rw (toZ-ofZ (c .before .before .before .before .fits .level)) at (c .before .is-level .ensures)) ∙ c .if3 .taken)

@@ -3,7 +3,6 @@ use mathlib.Core.Path.{refl}
 use Prim.Native.Nat.{ℕ, _<_}
 use native.Mathlib.Omega.{arith}
 use lib.ListN.{getD}
-use borrow.Author.Needs.{needs}
 use Rattle.cuts.specs.Cut.{at}
 use Rattle.writer.specs.Write.{refused}
 use Rattle.writer.proofs.CheckedGiven.{lists-most, refused-lists}
@@ -12,16 +11,16 @@ use Rattle.writer.proofs.write.Statement.{statement}
 use Rattle.writer.proofs.write.Tie as tie
 
 check-lists-requires : tie.Need-check-lists-requires
-check-lists-requires c κs = search needs
+check-lists-requires c κs = tt
 
 enum-known-v : tie.Need-enum-known-v
-enum-known-v c = search needs
+enum-known-v c = omega arith
 
 returns : tie.Need-returns
 returns c = refused (refused-lists _ _ _ _ _ (c .before .before .before .check-lists .ensures) _ (c .before .v .given .1)) refl
 
 enum-told : tie.Need-enum-told
-enum-told c = search needs
+enum-told c = omega arith
 
 pack-requires : tie.Need-pack-requires
 pack-requires c κs =
@@ -29,7 +28,7 @@ pack-requires c κs =
     (omega arith, omega arith, omega arith, lists-most _ _ (v .before .before .check-lists .ensures) (v .enum-told .given .1))
 
 same-length : tie.Need-same-length
-same-length c = search needs
+same-length c = omega arith
 
 returns-2 : tie.Need-returns-2
 returns-2 c =

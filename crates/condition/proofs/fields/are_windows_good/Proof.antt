@@ -4,7 +4,6 @@ use mathlib.Core.Bool.{true}
 use Prim.Native.Nat.{_-_, _≤_}
 use native.Mathlib.Nat.{le-antisymm}
 use native.Mathlib.Omega.{arith}
-use borrow.Author.Needs.{needs}
 use borrow.Author.Tests.{not-true}
 use Rattle.cuts.specs.Below.{every}
 use Rattle.cuts.proofs.BelowLaws.{every-false, every-more}
@@ -24,7 +23,7 @@ unfolding every
 loop-holds c = (omega arith, refl)
 
 is-window-good-requires : tie.Need-is-window-good-requires Inv-loop μ-loop
-is-window-good-requires c κs = search needs
+is-window-good-requires c κs = omega arith
 
 returns : tie.Need-returns Inv-loop μ-loop
 returns c =
@@ -32,10 +31,10 @@ returns c =
     sym (every-false 8 _ _ (c .before .before .loop-test .taken) e)
 
 add-p : tie.Need-add-p Inv-loop μ-loop
-add-p c = search needs
+add-p c = omega arith
 
 loop-less : tie.Need-loop-less Inv-loop μ-loop
-loop-less c = search needs
+loop-less c = omega arith
 
 loop-again : tie.Need-loop-again Inv-loop μ-loop
 loop-again c = (omega arith, every-more _ _ (c .before .before .before .loop .inv .1) (answered-true (c .before .is-window-good .ensures) (c .if1 .left)))

@@ -2,12 +2,11 @@
 use mathlib.Core.Path.{_∙_}
 use native.Mathlib.Omega.{arith}
 use Rattle.bits.proofs.BitsLaws.{peeked-field, field-lt}
-use borrow.Author.Needs.{needs}
 use Rattle.condition.proofs.fields.field_at.Statement.{statement}
 use Rattle.condition.proofs.fields.field_at.Tie as tie
 
 peek-requires : tie.Need-peek-requires
-peek-requires c κs = search needs
+peek-requires c κs = tt
 
 returns : tie.Need-returns
 returns c = let e = c .peek .ensures ∙ peeked-field _ _ _ (omega arith) in (e, rw e (field-lt _ _ _))

@@ -1,15 +1,15 @@
 -- An asked bit is a field of one bit.
 use mathlib.Core.Path.{refl}
+use native.Mathlib.Omega.{arith}
 use Rattle.condition.specs.Condition.{askedAt}
-use borrow.Author.Needs.{needs}
 use Rattle.condition.proofs.fields.is_asked.Statement.{statement}
 use Rattle.condition.proofs.fields.is_asked.Tie as tie
 
 add-field-at : tie.Need-add-field-at
-add-field-at c = search needs
+add-field-at c = omega arith
 
 field-at-requires : tie.Need-field-at-requires
-field-at-requires c κs = search needs
+field-at-requires c κs = omega arith
 
 returns : tie.Need-returns
 unfolding askedAt

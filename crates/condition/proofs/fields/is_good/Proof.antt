@@ -4,26 +4,25 @@ use native.Mathlib.Omega.{arith}
 use Rattle.cuts.proofs.ReplyLaws.{answered-true, answered-false}
 use Rattle.condition.specs.Condition.{kindAt, kAt, lowAt, highAt}
 use Rattle.condition.proofs.FieldLaws.{kOk-said, endsOk-said, conditionOk-broken, conditionOk-windows}
-use borrow.Author.Needs.{needs}
 use Rattle.condition.proofs.fields.is_good.Statement.{statement}
 use Rattle.condition.proofs.fields.is_good.Tie as tie
 
 field-at-requires : tie.Need-field-at-requires
-field-at-requires c κs = search needs
+field-at-requires c κs = omega arith
 
 returns : tie.Need-returns
 unfolding kindAt
 returns c = conditionOk-broken _ (λ h. omega (arith, h .kind))
 
 field-at-requires-2 : tie.Need-field-at-requires-2
-field-at-requires-2 c κs = search needs
+field-at-requires-2 c κs = omega arith
 
 returns-2 : tie.Need-returns-2
 unfolding kAt
 returns-2 c = conditionOk-broken _ (λ h. omega (arith, h .k))
 
 is-k-good-requires : tie.Need-is-k-good-requires
-is-k-good-requires c κs = search needs
+is-k-good-requires c κs = tt
 
 returns-3 : tie.Need-returns-3
 unfolding kindAt kAt
@@ -33,13 +32,13 @@ returns-3 c =
     conditionOk-broken _ (λ h. answered-false e (c .if3 .taken) (h .k-use))
 
 field-at-requires-3 : tie.Need-field-at-requires-3
-field-at-requires-3 c κs = search needs
+field-at-requires-3 c κs = omega arith
 
 field-at-requires-4 : tie.Need-field-at-requires-4
-field-at-requires-4 c κs = search needs
+field-at-requires-4 c κs = omega arith
 
 is-pair-good-requires : tie.Need-is-pair-good-requires
-is-pair-good-requires c κs = search needs
+is-pair-good-requires c κs = tt
 
 returns-4 : tie.Need-returns-4
 unfolding kindAt lowAt highAt

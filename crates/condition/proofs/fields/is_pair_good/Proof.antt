@@ -2,15 +2,14 @@
 use mathlib.Core.Path.{refl}
 use borrow.Author.Tests.{eq-eqb, ne-eqb}
 use Rattle.condition.proofs.FieldLaws.{raised-upright}
-use borrow.Author.Needs.{needs}
 use Rattle.condition.proofs.fields.is_pair_good.Statement.{statement}
 use Rattle.condition.proofs.fields.is_pair_good.Tie as tie
 
 raised-requires : tie.Need-raised-requires
-raised-requires c κs = search needs
+raised-requires c κs = tt
 
 raised-requires-2 : tie.Need-raised-requires-2
-raised-requires-2 c κs = search needs
+raised-requires-2 c κs = tt
 
 returns : tie.Need-returns
 returns c = rw (c .before .before .if1 .taken, c .before .raised .ensures, c .raised2 .ensures) (raised-upright _ _)

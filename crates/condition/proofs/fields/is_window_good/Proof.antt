@@ -1,31 +1,31 @@
 -- A window has a use where the kind is not Sum and the station is asked.
 use mathlib.Core.Path.{sym, _∙_}
+use native.Mathlib.Omega.{arith}
 use Rattle.condition.specs.Condition.{windowLow, windowHigh}
 use Rattle.condition.proofs.FieldLaws.{windowOk-sum, windowOk-other}
-use borrow.Author.Needs.{needs}
 use Rattle.condition.proofs.fields.is_window_good.Statement.{statement}
 use Rattle.condition.proofs.fields.is_window_good.Tie as tie
 
 mul-field-at : tie.Need-mul-field-at
-mul-field-at c = search needs
+mul-field-at c = omega arith
 
 add-field-at : tie.Need-add-field-at
-add-field-at c = search needs
+add-field-at c = omega arith
 
 field-at-requires : tie.Need-field-at-requires
-field-at-requires c κs = search needs
+field-at-requires c κs = omega arith
 
 mul-field-at-2 : tie.Need-mul-field-at-2
-mul-field-at-2 c = search needs
+mul-field-at-2 c = omega arith
 
 add-field-at-2 : tie.Need-add-field-at-2
-add-field-at-2 c = search needs
+add-field-at-2 c = omega arith
 
 field-at-requires-2 : tie.Need-field-at-requires-2
-field-at-requires-2 c κs = search needs
+field-at-requires-2 c κs = omega arith
 
 is-pair-good-requires : tie.Need-is-pair-good-requires
-is-pair-good-requires c κs = search needs
+is-pair-good-requires c κs = tt
 
 returns : tie.Need-returns
 unfolding windowLow windowHigh
@@ -35,10 +35,10 @@ returns c =
     (rw (← (w .before .field-at .ensures .0), ← (w .field-at2 .ensures .0)) (c .is-pair-good .ensures))
 
 is-asked-requires : tie.Need-is-asked-requires
-is-asked-requires c κs = search needs
+is-asked-requires c κs = omega arith
 
 is-pair-good-requires-2 : tie.Need-is-pair-good-requires-2
-is-pair-good-requires-2 c κs = search needs
+is-pair-good-requires-2 c κs = tt
 
 returns-2 : tie.Need-returns-2
 unfolding windowLow windowHigh

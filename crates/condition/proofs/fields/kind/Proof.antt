@@ -3,7 +3,6 @@ use mathlib.Core.Path.{refl, sym}
 use native.Mathlib.Omega.{arith}
 use Rattle.condition.specs.Condition.{kindAt, kAt, lowAt, highAt}
 use Rattle.condition.proofs.FieldLaws.{kindOf-zero, kindOf-one, kindOf-two}
-use borrow.Author.Needs.{needs}
 use Rattle.condition.proofs.fields.kind.Statement.{statement}
 use Rattle.condition.proofs.fields.kind.Tie as tie
 
@@ -11,25 +10,25 @@ returns : tie.Need-returns
 returns c = rw (c .if1 .taken) refl
 
 field-at-requires : tie.Need-field-at-requires
-field-at-requires c κs = search needs
+field-at-requires c κs = omega arith
 
 field-at-requires-2 : tie.Need-field-at-requires-2
-field-at-requires-2 c κs = search needs
+field-at-requires-2 c κs = omega arith
 
 cast-t7 : tie.Need-cast-t7
-cast-t7 c = search needs
+cast-t7 c = omega arith
 
 field-at-requires-3 : tie.Need-field-at-requires-3
-field-at-requires-3 c κs = search needs
+field-at-requires-3 c κs = omega arith
 
 raised-requires : tie.Need-raised-requires
-raised-requires c κs = search needs
+raised-requires c κs = tt
 
 field-at-requires-4 : tie.Need-field-at-requires-4
-field-at-requires-4 c κs = search needs
+field-at-requires-4 c κs = omega arith
 
 raised-requires-2 : tie.Need-raised-requires-2
-raised-requires-2 c κs = search needs
+raised-requires-2 c κs = tt
 
 returns-2 : tie.Need-returns-2
 unfolding kindAt

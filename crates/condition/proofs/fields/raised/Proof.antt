@@ -1,8 +1,8 @@
 -- The code's test is the definition's.
 use mathlib.Core.Path.{refl}
+use native.Mathlib.Omega.{arith}
 use borrow.Author.Tests.{le-leb, lt-leb}
 use Rattle.condition.specs.Condition.{raisedOf}
-use borrow.Author.Needs.{needs}
 use Rattle.condition.proofs.fields.raised.Statement.{statement}
 use Rattle.condition.proofs.fields.raised.Tie as tie
 
@@ -11,7 +11,7 @@ unfolding raisedOf
 returns c = rw (le-leb _ _ (c .if1 .taken)) refl
 
 add-result : tie.Need-add-result
-add-result c = search needs
+add-result c = omega arith
 
 returns-2 : tie.Need-returns-2
 unfolding raisedOf

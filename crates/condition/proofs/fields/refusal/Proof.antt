@@ -1,7 +1,6 @@
 -- Too few bytes, else what the section's tests say.
 use mathlib.Core.Path.{sym, _∙_}
 use Rattle.condition.proofs.FieldLaws.{refusedOf-short, refusedOf-broken, refusedOf-good}
-use borrow.Author.Needs.{needs}
 use Rattle.condition.proofs.fields.refusal.Statement.{statement}
 use Rattle.condition.proofs.fields.refusal.Tie as tie
 
@@ -9,7 +8,7 @@ returns : tie.Need-returns
 returns c = sym (refusedOf-short _ (c .if1 .taken))
 
 is-good-requires : tie.Need-is-good-requires
-is-good-requires c κs = search needs
+is-good-requires c κs = tt
 
 returns-2 : tie.Need-returns-2
 returns-2 c = sym (refusedOf-good _ (c .before .before .if1 .left) (sym (c .before .is-good .ensures) ∙ c .if2 .taken))

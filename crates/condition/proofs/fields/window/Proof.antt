@@ -1,36 +1,36 @@
 -- Each part is read as the definition says.
 use mathlib.Core.Path.{refl}
+use native.Mathlib.Omega.{arith}
 use Rattle.condition.specs.Condition.{windowOf, windowLow, windowHigh}
-use borrow.Author.Needs.{needs}
 use Rattle.condition.proofs.fields.window.Statement.{statement}
 use Rattle.condition.proofs.fields.window.Tie as tie
 
 is-asked-requires : tie.Need-is-asked-requires
-is-asked-requires c κs = search needs
+is-asked-requires c κs = omega arith
 
 mul-field-at : tie.Need-mul-field-at
-mul-field-at c = search needs
+mul-field-at c = omega arith
 
 add-field-at : tie.Need-add-field-at
-add-field-at c = search needs
+add-field-at c = omega arith
 
 field-at-requires : tie.Need-field-at-requires
-field-at-requires c κs = search needs
+field-at-requires c κs = omega arith
 
 raised-requires : tie.Need-raised-requires
-raised-requires c κs = search needs
+raised-requires c κs = tt
 
 mul-field-at-2 : tie.Need-mul-field-at-2
-mul-field-at-2 c = search needs
+mul-field-at-2 c = omega arith
 
 add-field-at-2 : tie.Need-add-field-at-2
-add-field-at-2 c = search needs
+add-field-at-2 c = omega arith
 
 field-at-requires-2 : tie.Need-field-at-requires-2
-field-at-requires-2 c κs = search needs
+field-at-requires-2 c κs = omega arith
 
 raised-requires-2 : tie.Need-raised-requires-2
-raised-requires-2 c κs = search needs
+raised-requires-2 c κs = tt
 
 returns : tie.Need-returns
 unfolding windowOf windowLow windowHigh

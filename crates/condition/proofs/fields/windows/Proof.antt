@@ -4,7 +4,6 @@ use mathlib.Core.List.{_++_}
 use Prim.Native.Nat.{_-_, _≤_}
 use native.Mathlib.Omega.{arith}
 use lib.ListN.{length, drop}
-use borrow.Author.Needs.{needs}
 use Rattle.cuts.specs.Below.{tab}
 use Rattle.condition.specs.Condition.{windowOf}
 use Rattle.condition.proofs.FieldLaws.{windows-more, windows-full}
@@ -18,7 +17,7 @@ abbrev μ-loop : tie.MeasureT-loop
 μ-loop s refused w₀ p₀ w p = 8 - p
 
 no-window-requires : tie.Need-no-window-requires Inv-loop μ-loop
-no-window-requires c κs = search needs
+no-window-requires c κs = tt
 
 returns : tie.Need-returns Inv-loop μ-loop
 unfolding tab
@@ -29,19 +28,19 @@ unfolding tab
 loop-holds c = (omega arith, refl, refl)
 
 window-requires : tie.Need-window-requires Inv-loop μ-loop
-window-requires c κs = search needs
+window-requires c κs = omega arith
 
 mul-w : tie.Need-mul-w Inv-loop μ-loop
-mul-w c = search needs
+mul-w c = omega arith
 
 array-set-from-w : tie.Need-array-set-from-w Inv-loop μ-loop
-array-set-from-w c = search needs
+array-set-from-w c = omega arith
 
 add-p : tie.Need-add-p Inv-loop μ-loop
-add-p c = search needs
+add-p c = omega arith
 
 loop-less : tie.Need-loop-less Inv-loop μ-loop
-loop-less c = search needs
+loop-less c = omega arith
 
 loop-again : tie.Need-loop-again Inv-loop μ-loop
 loop-again c = (omega arith, c .before .before .loop .inv .1, rw (c .before .before .loop .inv .2, c .window .ensures) (windows-more _ _ _ (omega arith)))

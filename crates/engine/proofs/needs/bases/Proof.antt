@@ -4,7 +4,6 @@ use mathlib.Core.List.{_++_}
 use Prim.Native.Nat.{ℕ, _-_, _≤_}
 use native.Mathlib.Omega.{arith}
 use lib.ListN.{drop}
-use borrow.Author.Needs.{needs}
 use Rattle.cuts.specs.Below.{tab}
 use Rattle.cuts.specs.Cut.{at}
 use Rattle.cuts.proofs.TabLaws.{tab-none, tab-more, tab-full}
@@ -23,31 +22,31 @@ loop-holds : tie.Need-loop-holds Inv-loop μ-loop
 loop-holds c = (omega arith, sym (rowsTo-zero _), tab-none _ _, c .before .pre .few)
 
 mul-b : tie.Need-mul-b Inv-loop μ-loop
-mul-b c = search needs
+mul-b c = omega arith
 
 array-write-b : tie.Need-array-write-b Inv-loop μ-loop
-array-write-b c = search needs
+array-write-b c = omega arith
 
 mul-wide : tie.Need-mul-wide Inv-loop μ-loop
-mul-wide c = search needs
+mul-wide c = omega arith
 
 array-read-wide : tie.Need-array-read-wide Inv-loop μ-loop
-array-read-wide c = search needs
+array-read-wide c = omega arith
 
 wide-requires : tie.Need-wide-requires Inv-loop μ-loop
-wide-requires c κs = search needs
+wide-requires c κs = tt
 
 add-rows : tie.Need-add-rows Inv-loop μ-loop
-add-rows c = search needs
+add-rows c = omega arith
 
 add-rows-2 : tie.Need-add-rows-2 Inv-loop μ-loop
 add-rows-2 c = let L = c .before .before .loop in omega (arith, rowsTo-le (c .before .before .before .before .args .full .counts) (L .inv .3) (L .p), L .inv .0, L .inv .1)
 
 add-p : tie.Need-add-p Inv-loop μ-loop
-add-p c = search needs
+add-p c = omega arith
 
 loop-less : tie.Need-loop-less Inv-loop μ-loop
-loop-less c = search needs
+loop-less c = omega arith
 
 loop-again : tie.Need-loop-again Inv-loop μ-loop
 loop-again c =

@@ -5,7 +5,6 @@ use Prim.Native.Nat.{ℕ, _+_, _-_, _*_, _≤_}
 use native.Mathlib.Nat.{le-antisymm}
 use native.Mathlib.Omega.{arith}
 use lib.ListN.{length, drop}
-use borrow.Author.Needs.{needs}
 use Rattle.cuts.specs.Cut.{at}
 use Rattle.engine.specs.Prepare.{rowsTo, firstOf, needsTo}
 use Rattle.engine.proofs.PrepareLaws.{rowsTo-zero, rowsTo-more, firstOf-zero, firstOf-more, needsTo-none, needsTo-more}
@@ -21,7 +20,7 @@ abbrev μ-loop : tie.MeasureT-loop
 μ-loop stamps needs₀ n counts rows₀ first₀ p₀ needs rows first p = n - p
 
 cast-n : tie.Need-cast-n Inv-loop μ-loop
-cast-n c = search needs
+cast-n c = omega arith
 
 loop-holds : tie.Need-loop-holds Inv-loop μ-loop
 loop-holds c =
@@ -29,13 +28,13 @@ loop-holds c =
     (omega arith, pre .0 .n-most, sym (rowsTo-zero _), sym (firstOf-zero _), refl, pre .1, needsTo-none _ _ _, pre .0 .few, omega arith, omega arith)
 
 mul-wide : tie.Need-mul-wide Inv-loop μ-loop
-mul-wide c = search needs
+mul-wide c = omega arith
 
 array-read-wide : tie.Need-array-read-wide Inv-loop μ-loop
 array-read-wide c = omega arith
 
 wide-requires : tie.Need-wide-requires Inv-loop μ-loop
-wide-requires c κs = search needs
+wide-requires c κs = tt
 
 mul-lay-station-needs : tie.Need-mul-lay-station-needs Inv-loop μ-loop
 mul-lay-station-needs c = omega (arith, c .before .before .loop .inv)
@@ -47,7 +46,7 @@ lay-station-needs-requires c κs =
     (omega (arith, L .inv), m, omega (arith, L .inv), L .inv .4 ∙ L .inv .5)
 
 add-rows : tie.Need-add-rows Inv-loop μ-loop
-add-rows c = search needs
+add-rows c = omega arith
 
 add-rows-2 : tie.Need-add-rows-2 Inv-loop μ-loop
 add-rows-2 c = omega (arith, c .before .before .before .before .before .before .loop .inv)

@@ -4,7 +4,6 @@ use Prim.Native.Nat.{_+_, _-_, _*_, _≤_}
 use native.Mathlib.Nat.{le-antisymm}
 use native.Mathlib.Omega.{arith}
 use lib.ListN.{length, length-set}
-use borrow.Author.Needs.{needs}
 use Rattle.engine.specs.Prepare.{stationNeed}
 use Rattle.engine.proofs.PrepareLaws.{pasted, pasted-is, pasted-none, pasted-more}
 use Rattle.engine.proofs.needs.lay_station_needs.Statement.{statement}
@@ -17,31 +16,31 @@ abbrev μ-loop : tie.MeasureT-loop
 μ-loop stamps p first m at needs₀ end j₀ needs j = 8 * (m + 1) - j
 
 add-end : tie.Need-add-end Inv-loop μ-loop
-add-end c = search needs
+add-end c = omega arith
 
 mul-end : tie.Need-mul-end Inv-loop μ-loop
-mul-end c = search needs
+mul-end c = omega arith
 
 loop-holds : tie.Need-loop-holds Inv-loop μ-loop
 loop-holds c = (omega arith, refl, pasted-none _ _ _)
 
 station-need-requires : tie.Need-station-need-requires Inv-loop μ-loop
-station-need-requires c κs = search needs
+station-need-requires c κs = omega arith
 
 add-needs : tie.Need-add-needs Inv-loop μ-loop
-add-needs c = search needs
+add-needs c = omega arith
 
 mul-needs : tie.Need-mul-needs Inv-loop μ-loop
-mul-needs c = search needs
+mul-needs c = omega arith
 
 slice-write-needs : tie.Need-slice-write-needs Inv-loop μ-loop
-slice-write-needs c = search needs
+slice-write-needs c = omega arith
 
 add-j : tie.Need-add-j Inv-loop μ-loop
-add-j c = search needs
+add-j c = omega arith
 
 loop-less : tie.Need-loop-less Inv-loop μ-loop
-loop-less c = search needs
+loop-less c = omega arith
 
 loop-again : tie.Need-loop-again Inv-loop μ-loop
 loop-again c =

@@ -1,19 +1,18 @@
 -- Each way out is one law of the first test that fails.
 use mathlib.Core.Path.{sym, _∙_}
-use borrow.Author.Needs.{needs}
 use borrow.Author.Tests.{not-true, not-false}
 use Rattle.engine.proofs.RoomLaws.{room-9, room-10, room-11, room-12, room-0}
 use Rattle.engine.proofs.rooms.fault.Statement.{statement}
 use Rattle.engine.proofs.rooms.fault.Tie as tie
 
 none-above-requires : tie.Need-none-above-requires
-none-above-requires c κs = search needs
+none-above-requires c κs = tt
 
 returns : tie.Need-returns
 returns c = room-9 _ _ _ _ _ _ (sym (c .before .none-above .ensures) ∙ not-true _ (c .if1 .taken))
 
 box-of-requires : tie.Need-box-of-requires
-box-of-requires c κs = search needs
+box-of-requires c κs = tt
 
 returns-2 : tie.Need-returns-2
 returns-2 c =
@@ -27,7 +26,7 @@ returns-3 c =
     room-11 _ _ _ _ _ _ (sym (A .before .none-above .ensures) ∙ not-false _ (A .if1 .left)) (rw (B .box-of .ensures) at (c .before .if2 .left)) (rw (B .box-of .ensures) at (c .if3 .taken))
 
 events-requires : tie.Need-events-requires
-events-requires c κs = search needs
+events-requires c κs = tt
 
 returns-4 : tie.Need-returns-4
 returns-4 c =

@@ -5,7 +5,6 @@ use Prim.Native.Nat.{_-_, _≤_}
 use native.Mathlib.Nat.{le-antisymm}
 use native.Mathlib.Omega.{arith}
 use lib.Dec.{ltb}
-use borrow.Author.Needs.{needs}
 use borrow.Author.Tests.{not-true, not-false}
 use Rattle.cuts.specs.Below.{every}
 use Rattle.cuts.proofs.BelowLaws.{every-false, every-more}
@@ -25,23 +24,23 @@ unfolding every
 loop-holds c = (omega arith, refl)
 
 mul-w : tie.Need-mul-w Inv-loop μ-loop
-mul-w c = search needs
+mul-w c = omega arith
 
 element-copy-out-w : tie.Need-element-copy-out-w Inv-loop μ-loop
-element-copy-out-w c = search needs
+element-copy-out-w c = omega arith
 
 unasked-or-below-requires : tie.Need-unasked-or-below-requires Inv-loop μ-loop
-unasked-or-below-requires c κs = search needs
+unasked-or-below-requires c κs = tt
 
 returns : tie.Need-returns Inv-loop μ-loop
 unfolding noneAbove
 returns c = sym (every-false _ _ _ (c .before .before .before .loop-test .taken) (sym (c .before .unasked-or-below .ensures) ∙ not-true _ (c .if1 .taken)))
 
 add-p : tie.Need-add-p Inv-loop μ-loop
-add-p c = search needs
+add-p c = omega arith
 
 loop-less : tie.Need-loop-less Inv-loop μ-loop
-loop-less c = search needs
+loop-less c = omega arith
 
 loop-again : tie.Need-loop-again Inv-loop μ-loop
 loop-again c = (omega arith, every-more _ _ (c .before .before .before .before .loop .inv .1) (sym (c .before .unasked-or-below .ensures) ∙ not-false _ (c .if1 .left)))

@@ -4,7 +4,6 @@ use Prim.Native.Nat.{_+_, _-_, _≤_}
 use native.Mathlib.Nat.{le-antisymm}
 use native.Mathlib.Omega.{arith}
 use lib.ListN.{length, length-set}
-use borrow.Author.Needs.{needs}
 use Rattle.engine.specs.Prepare.{stationWeight}
 use Rattle.engine.proofs.PrepareLaws.{pasted, pasted-is, pasted-none, pasted-more}
 use Rattle.engine.proofs.weights.lay_station_weights.Statement.{statement}
@@ -20,22 +19,22 @@ loop-holds : tie.Need-loop-holds Inv-loop μ-loop
 loop-holds c = (omega arith, refl, pasted-none _ _ _)
 
 station-weight-requires : tie.Need-station-weight-requires Inv-loop μ-loop
-station-weight-requires c κs = search needs
+station-weight-requires c κs = omega arith
 
 add-weights : tie.Need-add-weights Inv-loop μ-loop
-add-weights c = search needs
+add-weights c = omega arith
 
 mul-weights : tie.Need-mul-weights Inv-loop μ-loop
-mul-weights c = search needs
+mul-weights c = omega arith
 
 slice-write-weights : tie.Need-slice-write-weights Inv-loop μ-loop
-slice-write-weights c = search needs
+slice-write-weights c = omega arith
 
 add-e : tie.Need-add-e Inv-loop μ-loop
-add-e c = search needs
+add-e c = omega arith
 
 loop-less : tie.Need-loop-less Inv-loop μ-loop
-loop-less c = search needs
+loop-less c = omega arith
 
 loop-again : tie.Need-loop-again Inv-loop μ-loop
 loop-again c =

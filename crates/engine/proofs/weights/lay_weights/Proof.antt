@@ -5,7 +5,6 @@ use Prim.Native.Nat.{ℕ, _+_, _-_, _*_, _≤_}
 use native.Mathlib.Nat.{le-antisymm}
 use native.Mathlib.Omega.{arith}
 use lib.ListN.{length, drop}
-use borrow.Author.Needs.{needs}
 use Rattle.cuts.specs.Cut.{at}
 use Rattle.engine.specs.Prepare.{rowsTo, firstOf, weightsTo}
 use Rattle.engine.proofs.PrepareLaws.{rowsTo-zero, rowsTo-more, firstOf-zero, firstOf-more, weightsTo-none, weightsTo-more}
@@ -21,7 +20,7 @@ abbrev μ-loop : tie.MeasureT-loop
 μ-loop c levels weights₀ starts n counts rows₀ first₀ p₀ weights rows first p = n - p
 
 cast-n : tie.Need-cast-n Inv-loop μ-loop
-cast-n c = search needs
+cast-n c = omega arith
 
 loop-holds : tie.Need-loop-holds Inv-loop μ-loop
 loop-holds c =
@@ -29,13 +28,13 @@ loop-holds c =
     (omega arith, pre .0 .n-most, sym (rowsTo-zero _), sym (firstOf-zero _), refl, pre .1, weightsTo-none _ _ _ _ _, pre .0 .few, omega arith, omega arith)
 
 mul-wide : tie.Need-mul-wide Inv-loop μ-loop
-mul-wide c = search needs
+mul-wide c = omega arith
 
 array-read-wide : tie.Need-array-read-wide Inv-loop μ-loop
 array-read-wide c = omega arith
 
 wide-requires : tie.Need-wide-requires Inv-loop μ-loop
-wide-requires c κs = search needs
+wide-requires c κs = tt
 
 mul-lay-station-weights : tie.Need-mul-lay-station-weights Inv-loop μ-loop
 mul-lay-station-weights c = omega (arith, c .before .before .loop .inv)
@@ -50,7 +49,7 @@ lay-station-weights-requires c κs =
     (omega (arith, L .inv), m, omega (arith, L .inv), L .inv .4 ∙ L .inv .5)
 
 add-rows : tie.Need-add-rows Inv-loop μ-loop
-add-rows c = search needs
+add-rows c = omega arith
 
 add-rows-2 : tie.Need-add-rows-2 Inv-loop μ-loop
 add-rows-2 c = omega (arith, c .before .before .before .before .before .before .loop .inv)

@@ -1,24 +1,24 @@
 -- Both ways out are what the condition makes of a level: the start level, or that of the event.
 use mathlib.Core.Path.{_∙_}
-use borrow.Author.Needs.{needs}
+use native.Mathlib.Omega.{arith}
 use Rattle.engine.proofs.PrepareLaws.{weight-start, weight-event}
 use Rattle.engine.proofs.weights.station_weight.Statement.{statement}
 use Rattle.engine.proofs.weights.station_weight.Tie as tie
 
 weigh-requires : tie.Need-weigh-requires
-weigh-requires c κs = search needs
+weigh-requires c κs = tt
 
 returns : tie.Need-returns
 returns c = c .weigh .ensures ∙ weight-start _ _ _ _ _ _ (c .before .if1 .taken)
 
 add-number : tie.Need-add-number
-add-number c = search needs
+add-number c = omega arith
 
 number-requires : tie.Need-number-requires
-number-requires c κs = search needs
+number-requires c κs = tt
 
 weigh-requires-2 : tie.Need-weigh-requires-2
-weigh-requires-2 c κs = search needs
+weigh-requires-2 c κs = tt
 
 returns-2 : tie.Need-returns-2
 returns-2 c = c .weigh2 .ensures ∙ rw (c .before .number .ensures) (weight-event _ _ _ _ _ _ (c .before .before .if1 .left))
