@@ -8,13 +8,13 @@ use Rattle.batch.proofs.printed.Statement.{statement}
 use Rattle.batch.proofs.printed.Tie as tie
 
 looked-at-requires : tie.Need-looked-at-requires
-looked-at-requires c κs = search needs
+looked-at-requires c κs = tt
 
 slice-aggregate-answer : tie.Need-slice-aggregate-answer
 slice-aggregate-answer c = sym (length-take-le _ _ (omega (arith, c .before .looked-at .ensures)))
 
 answer-requires : tie.Need-answer-requires
-answer-requires c κs = search needs
+answer-requires c κs = tt
 
 slice-write-room : tie.Need-slice-write-room
 slice-write-room c =

@@ -1,7 +1,7 @@
 -- k stays within the recording.
 use Prim.Native.Nat.{_-_, _≤_}
+use native.Mathlib.Omega.{arith}
 use lib.ListN.{length}
-use borrow.Author.Needs.{needs}
 use Rattle.damage.proofs.cut_short.Statement.{statement}
 use Rattle.damage.proofs.cut_short.Tie as tie
 
@@ -12,25 +12,25 @@ abbrev μ-loop : tie.MeasureT-loop
 μ-loop s counts₀ k₀ counts k = length s - k
 
 loop-holds : tie.Need-loop-holds Inv-loop μ-loop
-loop-holds c = search needs
+loop-holds c = omega arith
 
 reply-to-front-requires : tie.Need-reply-to-front-requires Inv-loop μ-loop
-reply-to-front-requires c κs = search needs
+reply-to-front-requires c κs = tt
 
 counted-requires : tie.Need-counted-requires Inv-loop μ-loop
-counted-requires c κs = search needs
+counted-requires c κs = tt
 
 add-k : tie.Need-add-k Inv-loop μ-loop
-add-k c = search needs
+add-k c = omega arith
 
 loop-less : tie.Need-loop-less Inv-loop μ-loop
-loop-less c = search needs
+loop-less c = omega arith
 
 loop-again : tie.Need-loop-again Inv-loop μ-loop
-loop-again c = search needs
+loop-again c = omega arith
 
 returns : tie.Need-returns Inv-loop μ-loop
-returns c = search needs
+returns c = omega arith
 
 pub cut-short-spec : {M : Type 1} → statement M
 cut-short-spec =

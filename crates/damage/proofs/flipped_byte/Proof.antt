@@ -1,6 +1,7 @@
 -- The slice keeps its length, so byte i stays one of it; eight turns are left.
 use mathlib.Core.Path.{_≡_}
 use Prim.Native.Nat.{_<_}
+use native.Mathlib.Omega.{arith}
 use lib.ListN.{length}
 use borrow.Author.Needs.{needs}
 use Rattle.damage.proofs.flipped_byte.Statement.{statement}
@@ -13,40 +14,40 @@ abbrev μ-loop : tie.MeasureT-loop
 μ-loop s₀ i good sum₀ bit₀ left₀ s sum bit left = left
 
 slice-read-good : tie.Need-slice-read-good Inv-loop μ-loop
-slice-read-good c = search needs
+slice-read-good c = omega arith
 
 loop-holds : tie.Need-loop-holds Inv-loop μ-loop
-loop-holds c = search needs
+loop-holds c = omega arith
 
 slice-write-s : tie.Need-slice-write-s Inv-loop μ-loop
-slice-write-s c = search needs
+slice-write-s c = omega arith
 
 reply-requires : tie.Need-reply-requires Inv-loop μ-loop
-reply-requires c κs = search needs
+reply-requires c κs = tt
 
 counted-requires : tie.Need-counted-requires Inv-loop μ-loop
-counted-requires c κs = search needs
+counted-requires c κs = tt
 
 wrapping-add-u8-requires : tie.Need-wrapping-add-u8-requires Inv-loop μ-loop
-wrapping-add-u8-requires c κs = search needs
+wrapping-add-u8-requires c κs = tt
 
 sub-left : tie.Need-sub-left Inv-loop μ-loop
-sub-left c = search needs
+sub-left c = omega arith
 
 loop-less : tie.Need-loop-less Inv-loop μ-loop
-loop-less c = search needs
+loop-less c = omega arith
 
 loop-again : tie.Need-loop-again Inv-loop μ-loop
 loop-again c = search needs
 
 slice-write-s-2 : tie.Need-slice-write-s-2 Inv-loop μ-loop
-slice-write-s-2 c = search needs
+slice-write-s-2 c = omega arith
 
 same-length : tie.Need-same-length Inv-loop μ-loop
 same-length c = search needs
 
 returns : tie.Need-returns Inv-loop μ-loop
-returns c = search needs
+returns c = omega arith
 
 pub flipped-byte-spec : {M : Type 1} → statement M
 flipped-byte-spec =

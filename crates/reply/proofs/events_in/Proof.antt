@@ -1,24 +1,24 @@
 -- The part from byte 38 on is the job's recording.
-use borrow.Author.Needs.{needs}
+use native.Mathlib.Omega.{arith}
 use Rattle.engine.proofs.JudgeLaws.{part-is}
 use Rattle.reply.proofs.AnswerLaws.{events-is}
 use Rattle.reply.proofs.events_in.Statement.{statement}
 use Rattle.reply.proofs.events_in.Tie as tie
 
 sub-full-cut : tie.Need-sub-full-cut
-sub-full-cut c = search needs
+sub-full-cut c = omega arith
 
 part-full-cut-start : tie.Need-part-full-cut-start
-part-full-cut-start c = search needs
+part-full-cut-start c = omega arith
 
 part-full-cut-end : tie.Need-part-full-cut-end
-part-full-cut-end c = search needs
+part-full-cut-end c = omega arith
 
 full-cut-requires : tie.Need-full-cut-requires
-full-cut-requires c κs = search needs
+full-cut-requires c κs = tt
 
 events-requires : tie.Need-events-requires
-events-requires c κs = search needs
+events-requires c κs = tt
 
 returns : tie.Need-returns
 returns c = events-is _ _ _ _ (part-is _) (c .before .full-cut .ensures) (c .events .ensures)

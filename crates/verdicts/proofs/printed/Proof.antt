@@ -4,7 +4,6 @@ use Prim.Native.Nat.{_≤_}
 use native.Mathlib.Omega.{arith}
 use lib.ListN.{length}
 use denote.Ref.{now}
-use borrow.Author.Needs.{needs}
 use Rattle.reply.specs.Answer.{textOf}
 use Rattle.fits.proofs.RoomLaws.{taken-whole}
 use Rattle.fits.proofs.TextFits.{text-fits}
@@ -12,10 +11,10 @@ use Rattle.verdicts.proofs.printed.Statement.{statement}
 use Rattle.verdicts.proofs.printed.Tie as tie
 
 answer-requires : tie.Need-answer-requires
-answer-requires c κs = search needs
+answer-requires c κs = tt
 
 same-length : tie.Need-same-length
-same-length c = search needs
+same-length c = omega arith
 
 returns : tie.Need-returns
 returns c =
