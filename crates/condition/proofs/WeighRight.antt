@@ -7,7 +7,7 @@ use Prim.Native.Nat.{ℕ, zero, suc, _+_, _*_, _≤_, _<_}
 use native.Mathlib.Nat.{eq-or-lt-of-le, le-of-suc-le-suc}
 use native.Mathlib.Omega.{arith}
 use lib.Dec.{leb}
-use lib.IntN.{ℤ, pos, subℕ, _+ℤ_, +ℤ-idr}
+use lib.IntN.{pos, subℕ, _+ℤ_, +ℤ-idr}
 use borrow.Author.Tests.{le-leb, leb-true}
 use Rattle.levels.specs.Level.{levelOf}
 use Rattle.levels.proofs.LevelLaws.{sub-le, sub-eq, sub-add}

@@ -1,5 +1,4 @@
 // The reply to a recording and a condition: the refusals from the recording's on, or the verdicts.
-ghost use mathlib.Core.Path.{_≡_};
 ghost use lib.ListN.{length};
 ghost use Rattle.engine.specs.Prepare.{Shifts};
 ghost use Rattle.engine.specs.Computed.{Settled, Computed};
