@@ -4,11 +4,11 @@ use mathlib.Core.Path.{_≡_, refl, sym, ap, _∙_, subst}
 use mathlib.Core.Bool.{Bool, true, false, _&&_, _||_, cond, false≢true}
 use mathlib.Core.List.{List, [], _∷_, _++_}
 use Prim.Native.Nat.{ℕ, zero, suc, _+_, _-_, _*_, _≤_, _<_}
-use native.Mathlib.Nat.{zero-mod, zero-div}
+use native.Mathlib.Nat.{zero-mod, zero-div, le-antisymm}
 use native.Mathlib.Numerals.{add-one}
 use native.Mathlib.Omega.{arith}
 use lib.Dec.{leb, ltb, eqb}
-use lib.ListN.{length, take, drop, set, length-set}
+use lib.ListN.{length, take, drop, set, replicate, length-set, length-replicate}
 use lib.Seq.{getD-set-same, getD-set-other, getD-take, set-getD, ext-getD, length-take-le, take-at}
 use borrow.Author.Tests.{leb-true, le-leb, lt-leb, lt-ltb, ltb-true, ltb-false, eqb-true, eq-eqb}
 use Rattle.cuts.specs.Below.{every, any, sumTo, tab}
@@ -26,9 +26,9 @@ use Rattle.cuts.proofs.ReplyLaws.{refuted}
 use Rattle.marks.specs.declared.Frame.{Frame}
 use Rattle.marks.specs.declared.Others.{Others}
 use Rattle.marks.specs.Flat.{rowMet, between, flatConsistent, flatHolds}
-use Rattle.marks.specs.Rows.{cutAt, stridesOf, leadsBack, othersMet, othersNeed, othersAdd, othersOf, Task, latticeOf, marksTo, Ready, RowAt, frameOf, cutMark, rowMarks, RowReady}
+use Rattle.marks.specs.Rows.{cutAt, stridesOf, leadsBack, othersMet, othersNeed, othersAdd, othersOf, Task, latticeOf, marksTo, Ready, RowAt, frameOf, cutMark, rowMarks, RowReady, BlankFrom}
 use Rattle.marks.proofs.SearchLaws.{tests-same, every-split, sumTo-split, any-same, leb-mostTo}
-use Rattle.marks.proofs.RowLaws.{length-unrank, length-countsOf, drop-front}
+use Rattle.marks.proofs.RowLaws.{length-unrank, length-countsOf, drop-front, blank-rest}
 use Rattle.marks.proofs.BackLaws.{length-stridesOf, steps-back, leads-same}
 
 -- of two cuts of a row, with x and with all events of station 1
@@ -237,6 +237,18 @@ module _ (task : Task) (needs weights : List ℕ) where
   pub length-marksTo : (r : ℕ) → length (marksTo task needs weights r) ≡ r
   unfolding marksTo
   length-marksTo r = length-tabled (markOf (latticeOf task needs weights)) (countsOf m) r
+
+  -- the rows that are still to be filled are blank
+  pub blank-behind : (d d′ marks : List ℕ) (size first width : ℕ) → d′ ≡ marksTo task needs weights first ++ drop first d → first + width ≤ size
+      → d ≡ replicate size 0 ++ drop size marks → BlankFrom d′ first width
+  blank-behind d d′ marks size first width e h b = rw e (blank-rest (marksTo task needs weights first) d marks size first width (length-marksTo first) h b)
+
+  -- after the last row
+  pub blank-end : (d d′ marks : List ℕ) (size first : ℕ) → d′ ≡ marksTo task needs weights first ++ drop first d → first ≤ size → size ≤ first
+      → d ≡ replicate size 0 ++ drop size marks → d′ ≡ marksTo task needs weights size ++ drop size marks
+  blank-end d d′ marks size first e h g b =
+      rw (le-antisymm h g) at e
+      ∙ ap (λ (l : List ℕ). marksTo task needs weights size ++ l) (rw b (drop-front (replicate size 0) marks size size (length-replicate size 0) (omega arith)))
 
   -- the mark of rank r, from the marks l of the ranks below
   abbrev nextMark : ℕ → List ℕ → ℕ

@@ -17,9 +17,9 @@ use Rattle.cuts.proofs.TabLaws.{front-more}
 use Rattle.marks.specs.declared.Frame.{Frame}
 use Rattle.marks.specs.declared.Others.{Others}
 use Rattle.marks.specs.Flat.{rowMet, between}
-use Rattle.marks.specs.Rows.{leadsBack, StepsBack, cutMark, rowMarks}
+use Rattle.marks.specs.Rows.{leadsBack, StepsBack, cutMark, rowMarks, BlankFrom}
 use Rattle.marks.proofs.SearchLaws.{any-same}
-use Rattle.marks.proofs.RowLaws.{replicate-snoc, blank-keeps}
+use Rattle.marks.proofs.RowLaws.{replicate-snoc, blank-there}
 
 module _ (frame : Frame) (sum : ℕ) (needs weights strides marks c : List ℕ) (x r : ℕ) where
   -- the tests of a mark, in order
@@ -59,13 +59,12 @@ module _ (frame : Frame) (sum : ℕ) (needs weights strides marks c : List ℕ) 
       unfolding cutMark any
       mark-cut-off z l = rw (e, t, le-ltb _ _ l, ne-eqb _ _ z) refl
 
--- where the cuts of a row begin that are not blank at once, and the next of them
-pub cuts-start : (x low width first room : ℕ) → x ≡ min low width → first + width ≤ room → (x ≤ x) × (x ≤ width) × (x ≤ low) × (first + x ≤ room)
-cuts-start x low width first room e h = (omega arith, omega arith, omega arith, omega arith)
+-- one cut of a row more, and no cut more
+pub cuts-more : (x width : ℕ) → x < width → width ≤ 65536 → (min x width ≡ x) × (min (x + 1) width ≡ x + 1) × (width - (x + 1) < width - x) × (x + 1 < 65537)
+cuts-more x width l g = (omega arith, omega arith, omega arith, omega arith)
 
-pub cuts-more : (x x′ low width : ℕ) → x ≡ min low width → x ≤ x′ → x′ < width → width ≤ 65536
-    → (low ≤ x′) × (x ≤ x′ + 1) × (x′ + 1 ≤ width) × (width - (x′ + 1) < width - x′) × (x′ + 1 < 65537)
-cuts-more x x′ low width e h l g = (omega arith, omega arith, omega arith, omega arith, omega arith)
+pub cuts-end : (x width : ℕ) → width ≤ x → min x width ≡ width
+cuts-end x width h = omega arith
 
 -- eight counts have a first
 pub some-count : (c : List ℕ) → length c ≡ 8 → 0 < length c
@@ -106,20 +105,11 @@ module _ (frame : Frame) (others : Others) (needs weights strides top : List ℕ
   rowMarks-blank below (suc x) h =
       rw (lt-ltb x (others .low) h, rowMarks-blank below x (omega arith), replicate-snoc x 0) (append-assoc below (replicate x 0) (0 ∷ []))
 
-  -- the marks d with x zeros from rank first on are d′
-  module _ (d d′ : List ℕ) (x : ℕ) (fits : first + x ≤ length d) (blank : d′ ≡ (take first d ++ replicate x 0) ++ drop (first + x) d) where
-    -- they are the marks of x cuts
-    pub rowMarks-start : x ≤ others .low → d′ ≡ rowMarks frame others needs weights strides top first (take first d′) x ++ drop (first + x) d′
-    rowMarks-start h =
-        let (front, rest) = blank-keeps d d′ first x fits blank in
-        blank ∙ sym (rw (rowMarks-blank (take first d′) x h, front, rest (first + x) (omega arith)) refl)
-
-    -- .. and those of w follow from either
-    pub rowMarks-end : (l : List ℕ) (w : ℕ) → x ≤ w → l ≡ rowMarks frame others needs weights strides top first (take first d′) w ++ drop (first + w) d′
-        → l ≡ rowMarks frame others needs weights strides top first (take first d) w ++ drop (first + w) d
-    rowMarks-end l w h e =
-        let (front, rest) = blank-keeps d d′ first x fits blank in
-        rw (front, rest (first + w) (omega arith)) at e
+  -- a blank row has the marks of the cuts that the others ask too much for
+  pub rowMarks-start : (d : List ℕ) (w : ℕ) → first + w ≤ length d → BlankFrom d first w
+      → d ≡ rowMarks frame others needs weights strides top first (take first d) (min (others .low) w) ++ drop (first + min (others .low) w) d
+  rowMarks-start d w h z =
+      rw (rowMarks-blank (take first d) (min (others .low) w) (omega arith)) (blank-there d first (min (others .low) w) (omega arith) (λ x l. z x (omega arith)))
 
   -- one cut more
   pub rowMarks-more : (d l : List ℕ) (x : ℕ) → l ≡ rowMarks frame others needs weights strides top first (take first d) x ++ drop (first + x) d

@@ -7,8 +7,8 @@ use native.Mathlib.Nat.{not-suc-le-zero, le-of-suc-le-suc, zero-lt-suc, div-one,
 use native.Mathlib.Decide.{decLt}
 use native.Mathlib.Numerals.{add-one}
 use native.Mathlib.Omega.{arith}
-use lib.ListN.{length, take, drop, set, replicate, take-append-drop, length-append, length-drop, length-set, length-replicate, replicate-append-replicate, List·getD-eq-default}
-use lib.Seq.{length-take-le, take-at, drop-at, drop-set-lt, drop-append-add, drop-drop}
+use lib.ListN.{length, take, drop, set, replicate, take-append-drop, length-append, length-drop, length-set, length-replicate, getD-replicate, replicate-append-replicate, List·getD-append, List·getD-eq-default}
+use lib.Seq.{length-take-le, take-at, drop-at, drop-set-lt, drop-append-add, drop-drop, getD-append-add, getD-drop, set-getD}
 use Rattle.cuts.specs.Below.{tab}
 use Rattle.cuts.specs.Cut.{at}
 use Rattle.cuts.specs.Rank.{weight, unrank, box}
@@ -18,7 +18,7 @@ use Rattle.cuts.proofs.BelowLaws.{productTo-same, tab-same, length-tab, getD-ta
 use Rattle.cuts.proofs.RankLaws.{weight-zero, weight-cons, box-cons}
 use Rattle.cuts.proofs.TabLaws.{front-more, tab-more}
 use Rattle.cut.proofs.ValueLaws.{at-countsOf, weight-more}
-use Rattle.marks.specs.Rows.{cutAt, topAt, RowAt}
+use Rattle.marks.specs.Rows.{cutAt, topAt, RowAt, BlankFrom}
 
 -- the rest of a list whose first k are xs
 pub drop-front : (xs d : List ℕ) (k n : ℕ) → length xs ≡ k → k ≤ n → drop n (xs ++ drop k d) ≡ drop n d
@@ -28,7 +28,7 @@ drop-front xs d k n e h =
     ap (λ (i : ℕ). drop i (xs ++ drop k d)) a ∙ drop-append-add xs (drop k d) (n - k) ∙ drop-drop (n - k) k d ∙ ap (λ (i : ℕ). drop i d) b
 
 -- no zero yet
-pub blank-none : (l : List ℕ) (first : ℕ) → l ≡ (take first l ++ replicate 0 0) ++ drop (first + 0) l
+blank-none : (l : List ℕ) (first : ℕ) → l ≡ (take first l ++ replicate 0 0) ++ drop (first + 0) l
 blank-none l first =
     let e : first + 0 ≡ first = omega arith in
     sym (rw (e, append-nil) (take-append-drop first l))
@@ -40,7 +40,7 @@ pub replicate-snoc : (k a : ℕ) → replicate (suc k) a ≡ replicate k a ++ (a
 replicate-snoc k a = ap (λ (i : ℕ). replicate i a) (sym (add-one k)) ∙ replicate-more k a
 
 -- one zero more
-pub blank-more : (l : List ℕ) (first x : ℕ) → first + x < length l
+blank-more : (l : List ℕ) (first x : ℕ) → first + x < length l
     → set ((take first l ++ replicate x 0) ++ drop (first + x) l) (first + x) 0 ≡ (take first l ++ replicate (x + 1) 0) ++ drop (first + (x + 1)) l
 blank-more l first x h =
     let e : first + x + 1 ≡ first + (x + 1) = omega arith in
@@ -49,14 +49,28 @@ blank-more l first x h =
     h
     ∙ rw (e, replicate-more x 0, ← append-assoc (take first l) (replicate x 0) (0 ∷ [])) refl
 
--- what the zeros leave as it was
-pub blank-keeps : (d d′ : List ℕ) (first x : ℕ) → first + x ≤ length d → d′ ≡ (take first d ++ replicate x 0) ++ drop (first + x) d
-    → (take first d′ ≡ take first d) × ((k : ℕ) → first + x ≤ k → drop k d′ ≡ drop k d)
-blank-keeps d d′ first x h e =
-    let long = length-take-le first d (omega arith) in (
-      rw (e, append-assoc (take first d) (replicate x 0) (drop (first + x) d)) (take-at (take first d) _ first long),
-      λ k l. rw e (drop-front (take first d ++ replicate x 0) d (first + x) k (length-append (take first d) _ ∙ omega (arith, long, length-replicate {A = ℕ} x 0)) l),
-    )
+-- .. and so at the front
+pub zeros-more : (l : List ℕ) (x : ℕ) → x < length l → set (replicate x 0 ++ drop x l) x 0 ≡ replicate (x + 1) 0 ++ drop (x + 1) l
+zeros-more l x h = front-more (replicate x 0) l x 0 0 (length-replicate x 0) h ∙ rw (replicate-more x 0) refl
+
+-- zeros that are there already
+pub blank-there : (l : List ℕ) (first x : ℕ) → first + x ≤ length l → BlankFrom l first x → l ≡ (take first l ++ replicate x 0) ++ drop (first + x) l
+blank-there l first zero h z = blank-none l first
+blank-there l first (suc x) h z =
+    let same : set l (first + x) 0 ≡ l = rw (← z x (omega arith)) (set-getD l (first + x) 0) in
+    let before = blank-there l first x (omega arith) (λ i k. z i (omega arith)) in
+    sym same ∙ ap (λ (d : List ℕ). set d (first + x) 0) before ∙ blank-more l first x (omega arith) ∙ rw (add-one x) refl
+
+-- the zeros of a box, behind the marks xs of its first ranks
+pub blank-rest : (xs d marks : List ℕ) (size first width : ℕ) → length xs ≡ first → first + width ≤ size → d ≡ replicate size 0 ++ drop size marks
+    → BlankFrom (xs ++ drop first d) first width
+blank-rest xs d marks size first width e h b x l =
+    ap (λ (k : ℕ). at (xs ++ drop first d) (k + x)) (sym e)
+    ∙ getD-append-add xs (drop first d) x 0
+    ∙ getD-drop first d x 0
+    ∙ rw b
+    (List·getD-append (replicate size 0) (drop size marks) 0 (first + x) (omega (arith, length-replicate {A = ℕ} size 0))
+    ∙ getD-replicate size (first + x) 0 0 (omega arith))
 
 pub length-unrank : (m : List ℕ) (r : ℕ) → length (unrank m r) ≡ length m
 unfolding unrank

@@ -9,13 +9,13 @@ use native.Mathlib.Nat.{not-suc-le-zero, le-of-suc-le-suc, le-antisymm}
 use native.Mathlib.Decide.{decLt}
 use native.Mathlib.Numerals.{add-one}
 use native.Mathlib.Omega.{arith}
-use lib.Dec.{leb, ltb}
+use lib.Dec.{leb, ltb, eqb}
 use lib.ListN.{length, take}
 use borrow.Author.Tests.{leb-true, le-leb}
 use Rattle.cuts.specs.Below.{every, firstFrom, first, any, sumTo}
-use Rattle.cuts.specs.Cut.{back}
+use Rattle.cuts.specs.Cut.{at, back}
 use Rattle.cuts.proofs.BelowLaws.{and-true, last-or-below, sumTo-first, sumTo-same, every-true, true-every, first-is, first-le}
-use Rattle.marks.specs.Rows.{mostTo}
+use Rattle.marks.specs.Rows.{mostTo, NoneTo, NoneFrom}
 
 -- two tests each of which follows from the other
 pub tests-same : (a b : Bool) → (a ≡ true → b ≡ true) → (b ≡ true → a ≡ true) → a ≡ b
@@ -62,6 +62,16 @@ first-none f n h = go (decLt (first f n) n)
     go : Dec (first f n < n) → first f n ≡ n
     go (yes k) = absurd (false≢true (sym (h (first f n) k) ∙ first-is f n .passes k))
     go (no k) = le-antisymm (first-is f n .high) (omega arith)
+
+-- a piece without a 1 behind ranks without one
+pub none-joined : (marks : List ℕ) (r k : ℕ) → NoneTo marks r → NoneFrom marks r k → NoneTo marks (r + k)
+none-joined marks r k h g x l = go (decLt x r)
+  where
+    go : Dec (x < r) → eqb (at marks x) 1 ≡ false
+    go (yes a) = h x a
+    go (no a) =
+        let e : r + (x - r) ≡ x = omega arith in
+        rw e at (g (x - r) (omega arith))
 
 firstFrom-same : (f g : ℕ → Bool) (n p : ℕ) → ((q : ℕ) → q < p + n → f q ≡ g q) → firstFrom f n p ≡ firstFrom g n p
 unfolding firstFrom

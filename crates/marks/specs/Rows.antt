@@ -3,7 +3,7 @@
 -- In order: cuts and strides; a step back; the other stations of a row; the rows of the tables; what a box is filled for, and its marks so far; a row, its
 -- marks and what they are worked out from; the way back; the size of the box.
 use mathlib.Core.Path.{_≡_}
-use mathlib.Core.Bool.{Bool, _&&_, _||_, cond}
+use mathlib.Core.Bool.{Bool, false, _&&_, _||_, cond}
 use mathlib.Core.List.{List, [], _∷_, _++_, map, reverse}
 use Prim.Native.Nat.{ℕ, zero, suc, _+_, _-_, _*_, _≤_, _<_, max}
 use lib.ListN.{length, drop, set, replicate}
@@ -154,3 +154,15 @@ wayTo full marks k c = map suc (reverse (walk (plain full) (λ d. at marks (rank
 -- the size of a box that can be settled, else 0
 unfoldable pub sizeOf : Cut → List ℕ → ℕ → ℕ → ℕ → ℕ → ℕ
 sizeOf m bases cells rows marks path = cond (settleable m bases cells rows marks path) (box (countsOf m)) 0
+
+-- so many marks from rank first on are zeros
+abbrev pub BlankFrom : List ℕ → ℕ → ℕ → Type 0
+BlankFrom marks first width = (x : ℕ) → x < width → at marks (first + x) ≡ 0
+
+-- none of the marks of the first r ranks is a 1
+abbrev pub NoneTo : List ℕ → ℕ → Type 0
+NoneTo marks r = (q : ℕ) → q < r → eqb (at marks q) 1 ≡ false
+
+-- .. and of so many from rank first on
+abbrev pub NoneFrom : List ℕ → ℕ → ℕ → Type 0
+NoneFrom marks first width = (x : ℕ) → x < width → eqb (at marks (first + x)) 1 ≡ false

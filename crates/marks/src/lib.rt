@@ -1,9 +1,9 @@
 // The marks of a box from flat tables, and the verdicts, the witness and the path read off them.
 // A box is filled row by row of station 1: the cuts of a row differ in their first count only, and what the other stations need and add is worked out once a row.
 ghost use mathlib.Core.Path.{_≡_};
-ghost use mathlib.Core.Bool.{_&&_, not, cond};
+ghost use mathlib.Core.Bool.{_&&_, false, not, cond};
 ghost use mathlib.Core.List.{_++_};
-ghost use Prim.Native.Nat.{_+_, _-_, _≤_, _<_, min, max};
+ghost use Prim.Native.Nat.{_+_, _-_, _≤_, _<_, max};
 ghost use lib.Dec.{ltb, eqb};
 ghost use lib.ListN.{length, take, drop, set, replicate};
 ghost use Rattle.cuts.specs.Below.{every, first};
@@ -11,7 +11,7 @@ ghost use Rattle.cuts.specs.Cut.{at, back, total};
 ghost use Rattle.cuts.specs.Rank.{box, unrank};
 ghost use Rattle.cut.specs.Value.{countsOf, FullCut};
 ghost use Rattle.marks.specs.Flat.{rowMet, between, rowThere, cutOfCounts, noWitness, settledOf, witnessOf, avoided, walked, Settles};
-ghost use Rattle.marks.specs.Rows.{cutWith, topAt, stridesOf, leadsBack, StepsBack, RowsThere, othersOf, taskOf, marksTo, Ready, cutMark, rowMarks, CutReady, RowReady, sizeOf};
+ghost use Rattle.marks.specs.Rows.{cutWith, topAt, stridesOf, leadsBack, StepsBack, RowsThere, othersOf, taskOf, marksTo, Ready, cutMark, rowMarks, CutReady, RowReady, sizeOf, BlankFrom, NoneTo, NoneFrom};
 use cut::Cut;
 
 // What is settled: whether the box could be, Poss with its witness (the start where Poss is no), and Def.
@@ -97,7 +97,7 @@ fn size_of(
     size
 }
 
-// All rows of the box.
+// All rows of the box, blank before.
 fn fill(
     full: Cut,
     bases: [usize; 8],
@@ -111,6 +111,7 @@ fn fill(
     requires { ⌜ Ready (taskOf full bases least most) (now needs) (now weights) (length (now marks)) × (size ≡ box (countsOf full)) ⌝ }
     ensures { λ _. ⌜ now (marks .exit) ≡ marksTo (taskOf full bases least most) (now (needs .entry)) (now (weights .entry)) size ++ drop size (now (marks .entry)) ⌝ }
 {
+    blank(marks, size);
     let events = full.counts;
     let n = full.n as usize;
     let width = wide(events[0]) + 1;
@@ -142,7 +143,20 @@ fn fill(
     }
 }
 
-// The row from rank first on, whose last cut has these counts; the first of them changes. The cuts with too few events of station 1 for the others are blank.
+// Zeros in the marks of the first size ranks.
+fn blank(marks: &mut [u8], size: usize)
+    requires { ⌜ size ≤ length (now marks) ⌝ }
+    ensures { λ _. ⌜ now (marks .exit) ≡ replicate size 0 ++ drop size (now (marks .entry)) ⌝ }
+{
+    let mut r: usize = 0;
+    while r < size {
+        marks[r] = 0;
+        r += 1;
+    }
+}
+
+// The row from rank first on, blank before, whose last cut has these counts; the first of them changes. The cuts with too few events of station 1 for the others
+// stay blank.
 fn fill_row(
     frame: Frame,
     needs: &[u16],
@@ -153,13 +167,12 @@ fn fill_row(
     counts: &mut [u16],
     first: usize,
 )
-    requires { ⌜ RowReady frame (now needs) (now weights) (now bases) (now strides) (length (now marks)) (now counts) first ⌝ }
+    requires { ⌜ RowReady frame (now needs) (now weights) (now bases) (now strides) (length (now marks)) (now counts) first × BlankFrom (now marks) first (frame .width) ⌝ }
     ensures { λ _. ⌜ (now (marks .exit) ≡ rowMarks frame (othersOf (frame .n) (now (bases .entry)) (now (needs .entry)) (now (weights .entry)) (now (counts .entry))) (now (needs .entry)) (now (weights .entry)) (now (strides .entry)) (now (counts .entry)) first (take first (now (marks .entry))) (frame .width) ++ drop (first + frame .width) (now (marks .entry))) × (now (counts .exit) ≡ set (now (counts .entry)) 0 (at (now (counts .exit)) 0)) ⌝ }
 {
     let others = others_of(needs, weights, bases, counts, frame.n);
     let width = frame.width;
-    let mut x = lower(others.low, width);
-    blank_row(marks, first, x);
+    let mut x = others.low;
     while x < width {
         let r = first + x;
         counts[0] = x as u16;
@@ -174,19 +187,6 @@ fn fill_row(
             x,
             r,
         );
-        x += 1;
-    }
-}
-
-// Zeros in the marks of so many cuts of a row, from rank first on.
-fn blank_row(marks: &mut [u8], first: usize, width: usize)
-    requires { ⌜ first + width ≤ length (now marks) ⌝ }
-    ensures { λ _. ⌜ now (marks .exit) ≡ (take first (now (marks .entry)) ++ replicate width 0) ++ drop (first + width) (now (marks .entry)) ⌝ }
-{
-    let mut x: usize = 0;
-    while x < width {
-        let r = first + x;
-        marks[r] = 0;
         x += 1;
     }
 }
@@ -343,7 +343,7 @@ fn first_one(marks: &[u8], size: usize) -> usize
     requires { ⌜ size ≤ length (now marks) ⌝ }
     ensures { λ r. ⌜ r ≡ first (λ r. eqb (at (now (marks .entry)) r) 1) size ⌝ }
 {
-    let mut r: usize = 0;
+    let mut r = passed_over(marks, size);
     while r < size {
         if marks[r] == 1 {
             return r;
@@ -351,6 +351,38 @@ fn first_one(marks: &[u8], size: usize) -> usize
         r += 1;
     }
     size
+}
+
+// So many of the first size ranks, in pieces of 256, none of which is marked 1.
+fn passed_over(marks: &[u8], size: usize) -> usize
+    requires { ⌜ size ≤ length (now marks) ⌝ }
+    ensures { λ r. ⌜ (r ≤ size) × NoneTo (now (marks .entry)) r ⌝ }
+{
+    let mut r: usize = 0;
+    while 256 <= size - r {
+        if has_one(marks, r) {
+            return r;
+        }
+        r += 256;
+    }
+    r
+}
+
+// Whether some of the 256 ranks from rank first on is marked 1. All of them are looked at, so that the machine can look at many at a time.
+fn has_one(marks: &[u8], first: usize) -> bool
+    requires { ⌜ first + 256 ≤ length (now marks) ⌝ }
+    ensures { λ b. ⌜ (b ≡ false → NoneFrom (now (marks .entry)) first 256) ⌝ }
+{
+    let mut seen = false;
+    let mut x: usize = 0;
+    while x < 256 {
+        let r = first + x;
+        if marks[r] == 1 {
+            seen = true;
+        }
+        x += 1;
+    }
+    seen
 }
 
 // The cut of rank r.
@@ -469,15 +501,6 @@ fn higher(x: usize, y: usize) -> usize
         return y;
     }
     x
-}
-
-fn lower(x: usize, y: usize) -> usize
-    ensures { λ r. ⌜ r ≡ min x y ⌝ }
-{
-    if x < y {
-        return x;
-    }
-    y
 }
 
 // A number of a table as a usize, with its bound.

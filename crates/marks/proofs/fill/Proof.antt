@@ -1,15 +1,15 @@
--- After j rows the marks of the first width * j ranks are the lattice's; a row that begins below the box lies in it.
+-- After j rows the marks of the first width * j ranks are the lattice's, and those behind are blank; a row that begins below the box lies in it.
 use mathlib.Core.Path.{_≡_, refl, sym, ap, _∙_}
 use mathlib.Core.List.{_++_}
 use Prim.Native.Nat.{_-_, _*_, _≤_}
-use native.Mathlib.Nat.{le-antisymm}
+use native.Mathlib.Nat.{le-trans, le-of-eq}
 use mir.Syntax.{w64}
 use lib.ListN.{length, drop, replicate}
 use Rattle.cuts.specs.Computed.{tabled}
 use Rattle.marks.specs.Rows.{cutWith, taskOf, marksTo}
 use Rattle.marks.proofs.RowLaws.{rowAt-here, row-none, row-next, row-less, row-small, topAt-kept}
 use Rattle.marks.proofs.BackLaws.{length-stridesOf}
-use Rattle.marks.proofs.FillLaws.{row-ready, row-marked}
+use Rattle.marks.proofs.FillLaws.{blank-behind, blank-end, row-ready, row-marked}
 use native.Mathlib.Omega.{arith}
 use borrow.Author.Needs.{fits-under}
 use Rattle.marks.proofs.fill.Statement.{statement}
@@ -24,6 +24,11 @@ Inv-loop least most needs weights marks₀ size bases events n width frame strid
 abbrev μ-loop : tie.MeasureT-loop
 μ-loop least most needs weights marks₀ size bases events n width frame strides counts₀ j₀ first₀ marks counts j first = size - first
 
+blank-requires : tie.Need-blank-requires Inv-loop μ-loop
+blank-requires c κs =
+    let start = c .before .before .before .before in
+    le-trans (le-of-eq (start .pre .1)) (start .pre .0 .fits)
+
 cast-n : tie.Need-cast-n Inv-loop μ-loop
 cast-n c = omega arith
 
@@ -36,12 +41,12 @@ wide-requires c κs = tt
 add-width : tie.Need-add-width Inv-loop μ-loop
 add-width c = omega arith
 
-array-read-t18 : tie.Need-array-read-t18 Inv-loop μ-loop
-array-read-t18 c = omega arith
+array-read-t21 : tie.Need-array-read-t21 Inv-loop μ-loop
+array-read-t21 c = omega arith
 
 strides-of-requires : tie.Need-strides-of-requires Inv-loop μ-loop
 strides-of-requires c κs =
-    let start = c .before .before .before .before .before .before in
+    let start = c .before .before .before .before .before .before .before .before .before .before in
     (start .pre .0 .full, start .pre .0 .limit)
 
 loop-holds : tie.Need-loop-holds Inv-loop μ-loop
@@ -52,7 +57,7 @@ loop-holds c =
 
 slice-aggregate-lay-top : tie.Need-slice-aggregate-lay-top Inv-loop μ-loop
 slice-aggregate-lay-top c =
-    let start = c .before .before .before .before .before .before .before .before .before .before in
+    let start = c .before .before .before .before .before .before .before .before .before .before .before .before .before .before in
     sym (start .pre .0 .rows .eight)
 
 slice-aggregate-lay-top-2 : tie.Need-slice-aggregate-lay-top-2 Inv-loop μ-loop
@@ -60,18 +65,18 @@ slice-aggregate-lay-top-2 c = sym (c .before .before .before .loop .inv .5)
 
 lay-top-requires : tie.Need-lay-top-requires Inv-loop μ-loop
 lay-top-requires c κs =
-    let start = c .before .before .before .before .before .before .before .before .before .before .before in
+    let start = c .before .before .before .before .before .before .before .before .before .before .before .before .before .before .before in
     let loop = c .before .before .before .loop in
     (start .pre .0 .full, start .pre .0 .rows .eight, loop .inv .5, loop .inv .6)
 
 slice-aggregate-fill-row : tie.Need-slice-aggregate-fill-row Inv-loop μ-loop
 slice-aggregate-fill-row c =
-    let start = c .before .before .before .before .before .before .before .before .before .before .before .before .before .before in
+    let start = c .before .before .before .before .before .before .before .before .before .before .before .before .before .before .before .before .before .before in
     sym (start .pre .0 .rows .starts)
 
 slice-aggregate-fill-row-2 : tie.Need-slice-aggregate-fill-row-2 Inv-loop μ-loop
 slice-aggregate-fill-row-2 c =
-    let start = c .before .before .before .before .before .before .before .before .before .before .before .before .before .before .before in
+    let start = c .before .before .before .before .before .before .before .before .before .before .before .before .before .before .before .before .before .before .before in
     sym (ap length (c .before .before .before .before .before .before .before .before .strides-of .ensures) ∙ length-stridesOf (start .args .full) (start .pre .0 .full))
 
 slice-aggregate-fill-row-3 : tie.Need-slice-aggregate-fill-row-3 Inv-loop μ-loop
@@ -83,23 +88,27 @@ fill-row-requires c κs =
     let loop = test .before .loop in
     let strides-of = test .before .before .strides-of in
     let wide = test .before .before .before .wide in
-    let start = test .before .before .before .before .before .before .before .before .before in
+    let start = test .before .before .before .before .before .before .before .before .before .before .before .before .before in
     let ready = start .pre .0 in
     let row =
     rowAt-here (start .args .full) (ready .full) (ready .rows .eight) (wide .result) (loop .j) (loop .first) (wide .ensures .0) (loop .inv .2) (rw (start .pre .1) at (test .loop-test .taken)) in
-    rw (loop .inv .3, c .before .before .before .before .before .lay-top .ensures) (row-ready _ _ _ _ ready _ _ row _ _ refl (strides-of .ensures) _ (wide .ensures .0))
+    let next = row-next _ _ _ _ _ _ (wide .ensures .0) (row .within) (start .pre .1) (loop .inv .1) (loop .inv .2) in
+    let blank = test .before .before .before .before .before .before .before .before .blank in (
+      rw (loop .inv .3, blank .kept .0, c .before .before .before .before .before .lay-top .ensures) (row-ready _ _ _ _ ready _ _ row _ _ refl (strides-of .ensures) _ (wide .ensures .0)),
+      blank-behind _ _ _ _ _ _ _ _ _ (loop .inv .4) (next .0) (blank .ensures),
+    )
 
 add-j : tie.Need-add-j Inv-loop μ-loop
 add-j c =
     let test = c .before .before .before .before .before .before .before .before .before .before .before .before in
-    let start = test .before .before .before .before .before .before .before .before .before in
+    let start = test .before .before .before .before .before .before .before .before .before .before .before .before .before in
     let loop = test .before .loop in
     fits-under w64 _ 131073 (row-small _ _ _ _ _ (test .before .before .before .wide .ensures .1) (loop .inv .1) (test .loop-test .taken) (start .pre .1) (start .pre .0 .limit) .0) tt
 
 add-first : tie.Need-add-first Inv-loop μ-loop
 add-first c =
     let test = c .before .before .before .before .before .before .before .before .before .before .before .before in
-    let start = test .before .before .before .before .before .before .before .before .before in
+    let start = test .before .before .before .before .before .before .before .before .before .before .before .before .before in
     let loop = test .before .loop in
     fits-under w64 _ 131073 (row-small _ _ _ _ _ (test .before .before .before .wide .ensures .1) (loop .inv .1) (test .loop-test .taken) (start .pre .1) (start .pre .0 .limit) .1) tt
 
@@ -112,7 +121,7 @@ loop-again c =
     let loop = test .before .loop in
     let strides-of = test .before .before .strides-of in
     let wide = test .before .before .before .wide in
-    let start = test .before .before .before .before .before .before .before .before .before in
+    let start = test .before .before .before .before .before .before .before .before .before .before .before .before .before in
     let ready = start .pre .0 in
     let row =
     rowAt-here (start .args .full) (ready .full) (ready .rows .eight) (wide .result) (loop .j) (loop .first) (wide .ensures .0) (loop .inv .2) (rw (start .pre .1) at (test .loop-test .taken)) in
@@ -130,12 +139,12 @@ loop-again c =
     )
 
 same-length : tie.Need-same-length Inv-loop μ-loop
-same-length c = c .before .loop .inv .3
+same-length c = c .before .loop .inv .3 ∙ c .before .before .before .before .before .before .before .before .blank .kept .0
 
 returns : tie.Need-returns Inv-loop μ-loop
 returns c =
     let loop = c .before .loop in
-    rw (le-antisymm (loop .inv .0) (c .loop-test .left)) at (loop .inv .4)
+    blank-end _ _ _ _ _ _ _ _ (loop .inv .4) (loop .inv .0) (c .loop-test .left) (c .before .before .before .before .before .before .before .before .blank .ensures)
 
 pub fill-spec : {M : Type 1} → statement M
 fill-spec =
@@ -143,11 +152,12 @@ fill-spec =
     (tie.spec
     Inv-loop
     μ-loop
+    blank-requires
     cast-n
     array-read-wide
     wide-requires
     add-width
-    array-read-t18
+    array-read-t21
     strides-of-requires
     loop-holds
     slice-aggregate-lay-top

@@ -1,25 +1,26 @@
--- No rank passed is marked 1; the first that is is the answer.
+-- No rank passed over, or passed, is marked 1; the first that is is the answer.
 use mathlib.Core.Path.{_≡_, sym}
-use mathlib.Core.Bool.{false}
-use Prim.Native.Nat.{ℕ, _-_, _≤_, _<_}
+use Prim.Native.Nat.{_-_, _≤_}
 use native.Mathlib.Nat.{le-antisymm}
 use native.Mathlib.Omega.{arith}
-use lib.Dec.{eqb}
-use borrow.Author.Count.{below-none, below-more}
+use borrow.Author.Count.{below-more}
 use borrow.Author.Tests.{eq-eqb, ne-eqb}
-use Rattle.cuts.specs.Cut.{at}
+use Rattle.marks.specs.Rows.{NoneTo}
 use Rattle.marks.proofs.SearchLaws.{first-found, first-none}
 use Rattle.marks.proofs.first_one.Statement.{statement}
 use Rattle.marks.proofs.first_one.Tie as tie
 
 abbrev Inv-loop : tie.InvT-loop
-Inv-loop marks size r₀ r = (r ≤ size) × ((q : ℕ) → q < r → eqb (at marks q) 1 ≡ false)
+Inv-loop marks size r₀ r = (r ≤ size) × NoneTo marks r
 
 abbrev μ-loop : tie.MeasureT-loop
 μ-loop marks size r₀ r = size - r
 
+passed-over-requires : tie.Need-passed-over-requires Inv-loop μ-loop
+passed-over-requires c κs = c .before .pre
+
 loop-holds : tie.Need-loop-holds Inv-loop μ-loop
-loop-holds c = (omega arith, below-none _)
+loop-holds c = c .passed-over .ensures
 
 shared-slice-read-if1 : tie.Need-shared-slice-read-if1 Inv-loop μ-loop
 shared-slice-read-if1 c = omega arith
@@ -41,7 +42,7 @@ loop-again c =
 returns-2 : tie.Need-returns-2 Inv-loop μ-loop
 returns-2 c =
     let loop = c .before .loop in
-    let e : loop .r ≡ c .before .before .args .size = le-antisymm (loop .inv .0) (c .loop-test .left) in
+    let e : loop .r ≡ c .before .before .before .before .args .size = le-antisymm (loop .inv .0) (c .loop-test .left) in
     sym (first-none _ _ (rw e at (loop .inv .1)))
 
 pub first-one-spec : {M : Type 1} → statement M
@@ -50,6 +51,7 @@ first-one-spec =
     (tie.spec
     Inv-loop
     μ-loop
+    passed-over-requires
     loop-holds
     shared-slice-read-if1
     returns
