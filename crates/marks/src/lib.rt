@@ -148,10 +148,10 @@ fn blank(marks: &mut [u8], size: usize)
     requires { ⌜ size ≤ length (now marks) ⌝ }
     ensures { λ _. ⌜ now (marks .exit) ≡ replicate size 0 ++ drop size (now (marks .entry)) ⌝ }
 {
-    let mut r: usize = 0;
-    while r < size {
-        marks[r] = 0;
-        r += 1;
+    let mut rank: usize = 0;
+    while rank < size {
+        marks[rank] = 0;
+        rank += 1;
     }
 }
 
@@ -376,8 +376,8 @@ fn has_one(marks: &[u8], first: usize) -> bool
     let mut seen = false;
     let mut x: usize = 0;
     while x < 256 {
-        let r = first + x;
-        if marks[r] == 1 {
+        let rank = first + x;
+        if marks[rank] == 1 {
             seen = true;
         }
         x += 1;

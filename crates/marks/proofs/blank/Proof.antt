@@ -1,4 +1,4 @@
--- After r turns the first r marks are zeros, and the rest is as it was.
+-- After so many turns so many marks at the front are zeros, and the rest is as it was.
 use mathlib.Core.Path.{_≡_, refl, _∙_}
 use mathlib.Core.List.{_++_}
 use Prim.Native.Nat.{_-_, _≤_}
@@ -10,10 +10,10 @@ use Rattle.marks.proofs.blank.Statement.{statement}
 use Rattle.marks.proofs.blank.Tie as tie
 
 abbrev Inv-loop : tie.InvT-loop
-Inv-loop marks₀ size r₀ marks r = (r ≤ size) × (length marks ≡ length marks₀) × (marks ≡ replicate r 0 ++ drop r marks₀)
+Inv-loop marks₀ size rank₀ marks rank = (rank ≤ size) × (length marks ≡ length marks₀) × (marks ≡ replicate rank 0 ++ drop rank marks₀)
 
 abbrev μ-loop : tie.MeasureT-loop
-μ-loop marks₀ size r₀ marks r = size - r
+μ-loop marks₀ size rank₀ marks rank = size - rank
 
 loop-holds : tie.Need-loop-holds Inv-loop μ-loop
 loop-holds c = (omega arith, refl, refl)
@@ -21,8 +21,8 @@ loop-holds c = (omega arith, refl, refl)
 slice-write-marks : tie.Need-slice-write-marks Inv-loop μ-loop
 slice-write-marks c = omega arith
 
-add-r : tie.Need-add-r Inv-loop μ-loop
-add-r c = omega arith
+add-rank : tie.Need-add-rank Inv-loop μ-loop
+add-rank c = omega arith
 
 loop-less : tie.Need-loop-less Inv-loop μ-loop
 loop-less c = omega arith
@@ -31,7 +31,7 @@ loop-again : tie.Need-loop-again Inv-loop μ-loop
 loop-again c =
     let start = c .before .before in
     let loop = c .before .loop in
-    (omega arith, simp length-set (loop .inv .1), rw (loop .inv .2) (zeros-more (start .args .marks .now) (loop .r) (omega arith)))
+    (omega arith, simp length-set (loop .inv .1), rw (loop .inv .2) (zeros-more (start .args .marks .now) (loop .rank) (omega arith)))
 
 same-length : tie.Need-same-length Inv-loop μ-loop
 same-length c = omega arith
@@ -49,7 +49,7 @@ blank-spec =
     μ-loop
     loop-holds
     slice-write-marks
-    add-r
+    add-rank
     loop-less
     loop-again
     same-length

@@ -20,8 +20,8 @@ abbrev μ-loop : tie.MeasureT-loop
 loop-holds : tie.Need-loop-holds Inv-loop μ-loop
 loop-holds c = (omega arith, λ e. below-none _)
 
-add-r : tie.Need-add-r Inv-loop μ-loop
-add-r c = omega arith
+add-rank : tie.Need-add-rank Inv-loop μ-loop
+add-rank c = omega arith
 
 shared-slice-read-if1 : tie.Need-shared-slice-read-if1 Inv-loop μ-loop
 shared-slice-read-if1 c = omega arith
@@ -49,7 +49,7 @@ has-one-spec =
     Inv-loop
     μ-loop
     loop-holds
-    add-r
+    add-rank
     shared-slice-read-if1
     add-x
     loop-less
