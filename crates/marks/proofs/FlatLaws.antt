@@ -12,12 +12,12 @@ use borrow.Author.Tests.{lt-ltb, le-ltb, le-leb, leb-true, ltb-true, eq-eqb, ne-
 use Rattle.cuts.specs.Below.{every, first}
 use Rattle.cuts.specs.Cut.{at, total}
 use Rattle.cuts.specs.Rank.{box, rank, unrank}
-use Rattle.cut.specs.Value.{isFull, countsOf, boxOf, FullCut}
+use Rattle.cut.specs.Value.{isFull, countsOf, boxOf, FullCut, eventsOf}
 use Rattle.cut.specs.declared.Cut.{Cut}
 use Rattle.cuts.proofs.BelowLaws.{and-true, every-true}
 use Rattle.cuts.proofs.RankLaws.{box-pos}
 use Rattle.cuts.proofs.ReplyLaws.{refuted}
-use Rattle.cut.proofs.ValueRight.{isFull-is, boxOf-full, boxOf-none}
+use Rattle.cut.proofs.ValueRight.{isFull-is, boxOf-full, boxOf-none, eventsOf-full}
 use Rattle.marks.specs.declared.Settled.{Settled}
 use Rattle.marks.specs.Flat.{rowThere, filled, settleable, cutOfCounts, noWitness, settledOf, witnessOf, avoided, walked, Settles}
 use Rattle.marks.specs.Rows.{taskOf, marksTo, Ready, wayTo, sizeOf}
@@ -46,31 +46,16 @@ rowThere-has cells rows r e =
     (leb-true _ _ b, ltb-true _ _ a)
 
 -- a box with a cut is that of a full cut
-full-sized : (m : Cut) (size : ℕ) → size ≡ boxOf m → 1 ≤ size → FullCut m
+pub full-sized : (m : Cut) (size : ℕ) → size ≡ boxOf m → 1 ≤ size → FullCut m
 full-sized m size e h = go (isFull m) refl
   where
     go : (b : Bool) → isFull m ≡ b → FullCut m
     go true t = isFull-is m .0 t
     go false t = absurd (omega (arith, boxOf-none m (λ f. false≢true (sym t ∙ isFull-is m .1 f))))
 
--- a full cut whose box is within its limit has `size` cuts
-pub record Sized (m : Cut) (size : ℕ) : Type 0 where
-  pub full : FullCut m
-  pub is-box : size ≡ box (countsOf m)
-
--- the size answered is that of a full cut where it is from 1 to 65,536
-pub sized : (m : Cut) (size : ℕ) → size ≡ boxOf m → 1 ≤ size → size ≤ 65536 → Sized m size
-sized m size e h l =
-    let f = full-sized m size e h in
-    record { full = f; is-box = omega (arith, boxOf-full m f) }
-
 -- the full cut has the last rank
 pub rank-last : (m : Cut) (size : ℕ) → size ≡ box (countsOf m) → rank (countsOf m) (countsOf m) ≡ size - 1
 rank-last m size e = omega (arith, rank-full (countsOf m))
-
--- .. and of every full cut whose box is within 65,536
-pub box-size : (m : Cut) (size : ℕ) → size ≡ boxOf m → FullCut m → box (countsOf m) ≤ 65536 → size ≡ box (countsOf m)
-box-size m size e f h = omega (arith, boxOf-full m f)
 
 -- settleable in words
 pub record Settleable (m : Cut) (bases : List ℕ) (cells rows marks path : ℕ) : Type 0 where
@@ -104,12 +89,37 @@ module _ (m : Cut) (bases : List ℕ) (cells rows marks path : ℕ) where
   unfolding sizeOf
   size-none h = rw (refuted (settleable m bases cells rows marks path) (λ t. h (settleable-is .0 t))) refl
 
-  -- .. and where it can: each test was passed
-  pub size-some : (size : ℕ) → Sized m size → size ≤ 65536 → size ≤ marks → total (countsOf m) ≤ path
-      → every (m .n) (λ p. rowThere cells rows (at bases p + at (m .counts) p)) ≡ true → size ≡ sizeOf m bases cells rows marks path
-  unfolding sizeOf
-  size-some size s l k h e =
-      rw (settleable-is .1 (record { full = s .full; limit = omega (arith, s .is-box); fits = omega (arith, s .is-box); way = h; there = e })) (s .is-box)
+  -- what the tests of the size, of the room and of the rows say
+  module _ (size steps : ℕ) (all : Bool) (is-box : size ≡ boxOf m) (is-some : 1 ≤ size) (is-total : steps ≡ eventsOf m)
+      (is-all : all ≡ every (m .n) (λ p. rowThere cells rows (at bases p + at (m .counts) p))) where
+    full : FullCut m
+    full = full-sized m size is-box is-some
+
+    pub size-some : (leb size 65536 && leb size marks && leb steps path && all) ≡ true → size ≡ sizeOf m bases cells rows marks path
+    unfolding sizeOf
+    size-some t =
+        let (x, d) = and-true (leb size 65536 && leb size marks && leb steps path) all t in
+        let (y, c) = and-true (leb size 65536 && leb size marks) _ x in
+        let (a, b) = and-true (leb size 65536) _ y in
+        let e : size ≡ box (countsOf m) = omega (arith, leb-true size 65536 a, boxOf-full m full) in
+        rw (settleable-is .1 (record {
+          full = full;
+          limit = omega (arith, leb-true size 65536 a);
+          fits = omega (arith, leb-true size marks b);
+          way = omega (arith, leb-true steps path c, eventsOf-full m full);
+          there = sym is-all ∙ d;
+        }))
+        e
+
+    pub size-failed : (leb size 65536 && leb size marks && leb steps path && all) ≡ false → 0 ≡ sizeOf m bases cells rows marks path
+    size-failed t = size-none no
+      where
+        no : Settleable m bases cells rows marks path → ⊥
+        no f =
+            let e : size ≡ box (countsOf m) = omega (arith, boxOf-full m full, f .limit) in
+            false≢true
+            (sym t
+            ∙ and-both (and-both (and-both (le-leb size 65536 (omega (arith, f .limit))) (le-leb size marks (omega (arith, f .fits)))) (le-leb steps path (omega (arith, f .way, eventsOf-full m full)))) (is-all ∙ f .there))
 
   -- what a size says
   pub size-zero : (size : ℕ) → size ≡ sizeOf m bases cells rows marks path → size < 1 → settleable m bases cells rows marks path ≡ false

@@ -1,6 +1,6 @@
 -- Laws of the marks of a row. In order: the mark of a cut, as its tests decide it; a mark sees those of lower ranks; the row, cut by cut. Assumes nothing.
 use mathlib.Core.Path.{_≡_, refl, sym, ap, _∙_}
-use mathlib.Core.Bool.{Bool, true, false, _&&_}
+use mathlib.Core.Bool.{Bool, true, false, _&&_, _||_}
 use mathlib.Core.List.{List, [], _∷_, _++_, append-assoc, append-nil}
 use Prim.Native.Nat.{ℕ, zero, suc, _+_, _-_, _*_, _≤_, _<_, min}
 use native.Mathlib.Nat.{le-of-eq}
@@ -9,10 +9,11 @@ use native.Mathlib.Omega.{arith}
 use lib.Dec.{ltb, eqb}
 use lib.ListN.{length, take, drop, set, replicate, length-append, List·getD-append}
 use lib.Seq.{length-take-le, set-set}
-use borrow.Author.Tests.{ltb-true, lt-ltb, le-ltb, eq-eqb, ne-eqb}
+use mir.Val.{boolByte}
+use borrow.Author.Tests.{ltb-true, lt-ltb, le-ltb}
 use Rattle.cuts.specs.Below.{first, any}
 use Rattle.cuts.specs.Cut.{at}
-use Rattle.cuts.proofs.BelowLaws.{or-right}
+use Rattle.cuts.specs.Computed.{number}
 use Rattle.cuts.proofs.TabLaws.{front-more}
 use Rattle.marks.specs.declared.Frame.{Frame}
 use Rattle.marks.specs.declared.Others.{Others}
@@ -43,21 +44,18 @@ module _ (frame : Frame) (sum : ℕ) (needs weights strides marks c : List ℕ) 
     unfolding cutMark
     mark-holds t = rw (e, t) refl
 
-    module _ (t : holds ≡ false) where
-      -- it does not: the start
-      pub mark-start : r ≡ 0 → 3 ≡ cutMark frame sum needs weights strides marks c x r
-      unfolding cutMark
-      mark-start z = rw (e, t, eq-eqb _ _ z) refl
+    -- it does not: 3 at the start and where a step back leads to a 3, else 2
+    pub mark-rest : holds ≡ false → (q : ℕ) → q ≡ place → 2 + boolByte (eqb r 0 || ltb q (frame .n)) ≡ cutMark frame sum needs weights strides marks c x r
+    unfolding cutMark any
+    mark-rest t q z = rw (e, t, z) (go (eqb r 0 || ltb place (frame .n)))
+      where
+        go : (b : Bool) → 2 + boolByte b ≡ number true false b
+        go true = refl
+        go false = refl
 
-      -- a step back leads to a 3
-      pub mark-reached : place < frame .n → 3 ≡ cutMark frame sum needs weights strides marks c x r
-      unfolding cutMark any
-      mark-reached l = rw (e, t, lt-ltb _ _ l, or-right (eqb r 0) true refl) refl
-
-      -- none does
-      pub mark-cut-off : (r ≡ 0 → ⊥) → frame .n ≤ place → 2 ≡ cutMark frame sum needs weights strides marks c x r
-      unfolding cutMark any
-      mark-cut-off z l = rw (e, t, le-ltb _ _ l, ne-eqb _ _ z) refl
+pub mark-small : (b : Bool) → 2 + boolByte b < 256
+mark-small true = omega arith
+mark-small false = omega arith
 
 -- one cut of a row more, and no cut more
 pub cuts-more : (x width : ℕ) → x < width → width ≤ 65536 → (min x width ≡ x) × (min (x + 1) width ≡ x + 1) × (width - (x + 1) < width - x) × (x + 1 < 65537)

@@ -26,6 +26,11 @@ tests-same false false h g = refl
 pub and-both : {a b : Bool} → a ≡ true → b ≡ true → (a && b) ≡ true
 and-both h g = rw (h, g) refl
 
+-- one test more
+pub every-next : (n : ℕ) (f : ℕ → Bool) (a b : Bool) → a ≡ every n f → b ≡ f n → (a && b) ≡ every (n + 1) f
+unfolding every
+every-next n f a b h e = rw (add-one n, h, e) refl
+
 -- the first of the tests apart
 pub every-split : (n : ℕ) (f : ℕ → Bool) → 1 ≤ n → every n f ≡ (f 0 && every (n - 1) (λ i. f (i + 1)))
 every-split n f h = tests-same _ _ apart joined

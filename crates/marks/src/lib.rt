@@ -10,7 +10,7 @@ ghost use Rattle.cuts.specs.Below.{every, first};
 ghost use Rattle.cuts.specs.Cut.{at, back, total};
 ghost use Rattle.cuts.specs.Rank.{box, unrank};
 ghost use Rattle.cut.specs.Value.{countsOf, FullCut};
-ghost use Rattle.marks.specs.Flat.{rowMet, between, rowThere, cutOfCounts, noWitness, settledOf, witnessOf, avoided, walked, Settles};
+ghost use Rattle.marks.specs.Flat.{rowMet, rowThere, cutOfCounts, noWitness, settledOf, witnessOf, avoided, walked, Settles};
 ghost use Rattle.marks.specs.Rows.{cutWith, topAt, stridesOf, leadsBack, StepsBack, RowsThere, othersOf, taskOf, marksTo, Ready, cutMark, rowMarks, CutReady, RowReady, sizeOf, BlankFrom, NoneTo, NoneFrom};
 use cut::Cut;
 
@@ -82,19 +82,14 @@ fn size_of(
     if size < 1 {
         return 0;
     }
-    if 65536 < size {
-        return 0;
+    if (size <= 65536)
+        & (size <= marks)
+        & (cut::events(full) <= path)
+        & covered(full, bases, cells, rows)
+    {
+        return size;
     }
-    if marks < size {
-        return 0;
-    }
-    if path < cut::events(full) {
-        return 0;
-    }
-    if !covered(full, bases, cells, rows) {
-        return 0;
-    }
-    size
+    0
 }
 
 // All rows of the box, blank before.
@@ -211,16 +206,11 @@ fn mark(
     if !row_met(needs, 8 * at, counts, n) {
         return 0;
     }
-    if is_between(frame.least, frame.most, sum + wide(weights[at])) {
+    let total = sum + weights[at] as usize;
+    if (frame.least <= total) & (total <= frame.most) {
         return 1;
     }
-    if r == 0 {
-        return 3;
-    }
-    if first_back(marks, counts, strides, r, n) < n {
-        return 3;
-    }
-    2
+    2 + ((r == 0) | (first_back(marks, counts, strides, r, n) < n)) as u8
 }
 
 // What the stations but the first ask and add at the cut with these counts.
@@ -427,14 +417,13 @@ fn covered(full: Cut, bases: [usize; 8], cells: usize, rows: usize) -> bool
 {
     let events = full.counts;
     let n = full.n as usize;
+    let mut all = true;
     let mut p: usize = 0;
     while p < n {
-        if !row_there(bases[p], wide(events[p]), cells, rows) {
-            return false;
-        }
+        all = all & row_there(bases[p], wide(events[p]), cells, rows);
         p += 1;
     }
-    true
+    all
 }
 
 // Whether tables of so many cells and rows have row base + e.
@@ -482,16 +471,6 @@ fn step_back(counts: &mut [u16], strides: &[usize], p: usize, r: usize, n: usize
     }
     counts[p] = counts[p] - 1;
     r - strides[p]
-}
-
-// Whether a sum lies from least to most.
-fn is_between(least: usize, most: usize, sum: usize) -> bool
-    ensures { λ r. ⌜ r ≡ between least most sum ⌝ }
-{
-    if sum < least {
-        return false;
-    }
-    sum <= most
 }
 
 fn higher(x: usize, y: usize) -> usize

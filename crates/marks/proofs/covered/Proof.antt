@@ -1,22 +1,20 @@
--- After p turns the rows of the first p stations are there; one that is not refutes the whole.
-use mathlib.Core.Path.{_≡_, refl, sym, _∙_}
-use mathlib.Core.Bool.{true}
+-- After p turns it is known whether the rows of the first p stations are there.
+use mathlib.Core.Path.{_≡_, refl}
 use Prim.Native.Nat.{_+_, _-_, _≤_}
 use native.Mathlib.Nat.{le-antisymm}
 use native.Mathlib.Omega.{arith}
-use borrow.Author.Tests.{not-true, not-false}
 use Rattle.cuts.specs.Below.{every}
 use Rattle.cuts.specs.Cut.{at}
-use Rattle.cuts.proofs.BelowLaws.{every-false, every-more}
 use Rattle.marks.specs.Flat.{rowThere}
+use Rattle.marks.proofs.SearchLaws.{every-next}
 use Rattle.marks.proofs.covered.Statement.{statement}
 use Rattle.marks.proofs.covered.Tie as tie
 
 abbrev Inv-loop : tie.InvT-loop
-Inv-loop cells rows bases events n p₀ p = (p ≤ n) × (n ≤ 8) × (every p (λ q. rowThere cells rows (at bases q + at events q)) ≡ true)
+Inv-loop cells rows bases events n all₀ p₀ all p = (p ≤ n) × (n ≤ 8) × (all ≡ every p (λ q. rowThere cells rows (at bases q + at events q)))
 
 abbrev μ-loop : tie.MeasureT-loop
-μ-loop cells rows bases events n p₀ p = n - p
+μ-loop cells rows bases events n all₀ p₀ all p = n - p
 
 cast-n : tie.Need-cast-n Inv-loop μ-loop
 cast-n c = omega arith
@@ -43,9 +41,6 @@ wide-requires c κs = tt
 row-there-requires : tie.Need-row-there-requires Inv-loop μ-loop
 row-there-requires c κs = tt
 
-returns : tie.Need-returns Inv-loop μ-loop
-returns c = sym (every-false _ _ _ (c .before .before .before .loop-test .taken) (rw (c .before .before .wide .ensures .0) at (sym (c .before .row-there .ensures) ∙ not-true _ (c .if1 .taken))))
-
 add-p : tie.Need-add-p Inv-loop μ-loop
 add-p c = omega arith
 
@@ -54,16 +49,13 @@ loop-less c = omega arith
 
 loop-again : tie.Need-loop-again Inv-loop μ-loop
 loop-again c =
-    let loop = c .before .before .before .before .loop in (
-      omega arith,
-      loop .inv .1,
-      every-more _ _ (loop .inv .2) (rw (c .before .before .wide .ensures .0) at (sym (c .before .row-there .ensures) ∙ not-false _ (c .if1 .left))),
-    )
+    let loop = c .before .before .before .loop in
+    (omega arith, loop .inv .1, every-next _ _ _ _ (loop .inv .2) (rw (c .before .wide .ensures .0) at (c .row-there .ensures)))
 
-returns-2 : tie.Need-returns-2 Inv-loop μ-loop
-returns-2 c =
+returns : tie.Need-returns Inv-loop μ-loop
+returns c =
     let loop = c .before .loop in
-    sym (rw (le-antisymm (loop .inv .0) (c .loop-test .left)) at (loop .inv .2))
+    rw (le-antisymm (loop .inv .0) (c .loop-test .left)) at (loop .inv .2)
 
 pub covered-spec : {M : Type 1} → statement M
 covered-spec =
@@ -79,8 +71,7 @@ covered-spec =
     array-read-wide
     wide-requires
     row-there-requires
-    returns
     add-p
     loop-less
     loop-again
-    returns-2)
+    returns)

@@ -1,9 +1,15 @@
 -- Each test decides one of the three questions that make the mark.
 use mathlib.Core.Path.{sym, _∙_}
-use Rattle.marks.proofs.MarkLaws.{mark-unmet, mark-holds, mark-start, mark-reached, mark-cut-off}
+use mathlib.Core.Bool.{_||_}
+use Prim.Native.Nat.{_+_}
 use native.Mathlib.Nat.{le-of-lt}
-use borrow.Author.Tests.{not-true, not-false}
 use native.Mathlib.Omega.{arith}
+use lib.Dec.{ltb, eqb}
+use mir.Syntax.{w8}
+use borrow.Author.Needs.{fits-under}
+use borrow.Author.Tests.{not-true, not-false}
+use Rattle.marks.specs.Flat.{between}
+use Rattle.marks.proofs.MarkLaws.{mark-unmet, mark-holds, mark-rest, mark-small}
 use Rattle.marks.proofs.mark.Statement.{statement}
 use Rattle.marks.proofs.mark.Tie as tie
 
@@ -21,37 +27,42 @@ row-met-requires c κs =
 returns : tie.Need-returns
 returns c = mark-unmet _ _ _ _ _ _ _ _ _ (sym (c .before .row-met .ensures) ∙ not-true _ (c .if1 .taken))
 
-mul-wide : tie.Need-mul-wide
-mul-wide c = omega arith
+mul-total : tie.Need-mul-total
+mul-total c = omega arith
 
-shared-slice-read-wide : tie.Need-shared-slice-read-wide
-shared-slice-read-wide c = c .before .before .before .before .before .before .before .before .before .pre .0 .weighed
+shared-slice-read-total : tie.Need-shared-slice-read-total
+shared-slice-read-total c = c .before .before .before .before .before .before .before .before .before .pre .0 .weighed
 
-wide-requires : tie.Need-wide-requires
-wide-requires c κs = tt
+cast-total : tie.Need-cast-total
+cast-total c =
+    let start = c .before .before .before .before .before .before .before .before .before in
+    omega (arith, c .shared-slice-known6 .given (start .args .frame .base + start .args .x))
 
-add-is-between : tie.Need-add-is-between
-add-is-between c = omega arith
-
-is-between-requires : tie.Need-is-between-requires
-is-between-requires c κs = tt
+add-total : tie.Need-add-total
+add-total c =
+    let start = c .before .before .before .before .before .before .before .before .before in
+    omega (arith, c .shared-slice-known6 .given (start .args .frame .base + start .args .x))
 
 returns-2 : tie.Need-returns-2
-returns-2 c = mark-holds _ _ _ _ _ _ _ _ _ (sym (c .before .before .before .before .before .row-met .ensures) ∙ not-false _ (c .before .before .before .before .if1 .left)) (rw (c .before .before .wide .ensures .0) at (sym (c .before .is-between .ensures) ∙ c .if2 .taken))
-
-returns-3 : tie.Need-returns-3
-returns-3 c = mark-start _ _ _ _ _ _ _ _ _ (sym (c .before .before .before .before .before .before .row-met .ensures) ∙ not-false _ (c .before .before .before .before .before .if1 .left)) (rw (c .before .before .before .wide .ensures .0) at (sym (c .before .before .is-between .ensures) ∙ c .before .if2 .left)) (c .if3 .taken)
+unfolding between
+returns-2 c = mark-holds _ _ _ _ _ _ _ _ _ (sym (c .before .before .before .before .before .row-met .ensures) ∙ not-false _ (c .before .before .before .before .if1 .left)) (c .if2 .taken)
 
 first-back-requires : tie.Need-first-back-requires
 first-back-requires c κs =
-    let ready = c .before .before .before .before .before .before .before .before .before .before .before .before .before .pre .0 in
+    let ready = c .before .before .before .before .before .before .before .before .before .before .before .before .pre .0 in
     (ready .back, ready .stations, ready .counts, ready .strided, le-of-lt (ready .fits))
 
-returns-4 : tie.Need-returns-4
-returns-4 c = mark-reached _ _ _ _ _ _ _ _ _ (sym (c .before .before .before .before .before .before .before .before .row-met .ensures) ∙ not-false _ (c .before .before .before .before .before .before .before .if1 .left)) (rw (c .before .before .before .before .before .wide .ensures .0) at (sym (c .before .before .before .before .is-between .ensures) ∙ c .before .before .before .if2 .left)) (rw (c .before .first-back .ensures .0) at (c .if4 .taken))
+cast-result : tie.Need-cast-result
+cast-result c = tt
 
-returns-5 : tie.Need-returns-5
-returns-5 c = mark-cut-off _ _ _ _ _ _ _ _ _ (sym (c .before .before .before .before .before .before .before .before .row-met .ensures) ∙ not-false _ (c .before .before .before .before .before .before .before .if1 .left)) (rw (c .before .before .before .before .before .wide .ensures .0) at (sym (c .before .before .before .before .is-between .ensures) ∙ c .before .before .before .if2 .left)) (c .before .before .if3 .left) (rw (c .before .first-back .ensures .0) at (c .if4 .left))
+add-result : tie.Need-add-result
+add-result c =
+    let start = c .before .before .before .before .before .before .before .before .before .before .before .before .before in
+    fits-under w8 _ 256 (mark-small (eqb (start .args .r) 0 || ltb (c .first-back .result) (start .args .frame .n))) tt
+
+returns-3 : tie.Need-returns-3
+unfolding between
+returns-3 c = mark-rest _ _ _ _ _ _ _ _ _ (sym (c .before .before .before .before .before .before .row-met .ensures) ∙ not-false _ (c .before .before .before .before .before .if1 .left)) (c .before .if2 .left) _ (c .first-back .ensures .0)
 
 pub mark-spec : {M : Type 1} → statement M
 mark-spec =
@@ -61,13 +72,12 @@ mark-spec =
     mul-row-met
     row-met-requires
     returns
-    mul-wide
-    shared-slice-read-wide
-    wide-requires
-    add-is-between
-    is-between-requires
+    mul-total
+    shared-slice-read-total
+    cast-total
+    add-total
     returns-2
-    returns-3
     first-back-requires
-    returns-4
-    returns-5)
+    cast-result
+    add-result
+    returns-3)
