@@ -222,13 +222,13 @@ fn others_of(needs: &[u16], weights: &[u16], bases: &[usize], counts: &[u16], n:
     let mut sum: usize = 0;
     let mut p: usize = 1;
     while p < n {
-        let at = bases[p] + wide(counts[p]);
+        let at = bases[p] + counts[p] as usize;
         let from = 8 * at;
         if !row_met(needs, from, counts, n) {
             return Others { low: 65536, sum: 0 };
         }
-        low = higher(low, wide(needs[from]));
-        sum = sum + wide(weights[at]);
+        low = higher(low, needs[from] as usize);
+        sum = sum + weights[at] as usize;
         p += 1;
     }
     Others { low: low, sum: sum }
@@ -288,7 +288,7 @@ fn lay_top(events: &[u16], n: usize, j: usize, counts: &mut [u16])
     let mut i: usize = 0;
     while i < others {
         let p = i + 1;
-        let k = wide(events[p]) + 1;
+        let k = events[p] as usize + 1;
         counts[p] = (left % k) as u16;
         left = left / k;
         i += 1;

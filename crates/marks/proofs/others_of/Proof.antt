@@ -1,6 +1,8 @@
 -- After the stations up to place p low is the largest of their needs and the sum that of their weights; one whose row is not met ends the search.
-use Prim.Native.Nat.{_-_, _≤_}
+use mathlib.Core.Path.{refl}
+use Prim.Native.Nat.{_+_, _-_, _*_, _≤_}
 use native.Mathlib.Omega.{arith}
+use Rattle.cuts.specs.Cut.{at}
 use Rattle.marks.proofs.OthersLaws.{OthersTo, others-start, others-more, others-unmet, others-done}
 use Rattle.marks.proofs.others_of.Statement.{statement}
 use Rattle.marks.proofs.others_of.Tie as tie
@@ -24,87 +26,85 @@ shared-slice-read-at c =
     let start = c .before .before .before .before .before .before .before in
     omega (arith, start .pre .most, start .pre .starts)
 
-mul-wide : tie.Need-mul-wide Inv-loop μ-loop
-mul-wide c = omega arith
+mul-at-2 : tie.Need-mul-at-2 Inv-loop μ-loop
+mul-at-2 c = omega arith
 
-shared-slice-read-wide : tie.Need-shared-slice-read-wide Inv-loop μ-loop
-shared-slice-read-wide c =
+shared-slice-read-at-2 : tie.Need-shared-slice-read-at-2 Inv-loop μ-loop
+shared-slice-read-at-2 c =
     let start = c .before .before .before .before .before .before .before .before in
     omega (arith, start .pre .most, start .pre .eight)
 
-wide-requires : tie.Need-wide-requires Inv-loop μ-loop
-wide-requires c κs = tt
+cast-at : tie.Need-cast-at Inv-loop μ-loop
+cast-at c = omega (arith, c .shared-slice-known6 .given (c .before .before .before .loop .p))
 
 add-at : tie.Need-add-at Inv-loop μ-loop
 add-at c =
-    let test = c .before .before .before in
-    let loop = test .before in
-    let start = loop .before .before .before .before .before in
-    omega (arith, start .pre .needed (loop .loop .p) (test .loop-test .taken))
+    let test = c .before .before in
+    let start = test .before .before .before .before .before .before in
+    omega (arith, start .pre .needed (test .before .loop .p) (test .loop-test .taken))
 
 mul-from : tie.Need-mul-from Inv-loop μ-loop
 mul-from c =
-    let test = c .before .before .before in
-    let loop = test .before in
-    let start = loop .before .before .before .before .before in
-    omega (arith, start .pre .needed (loop .loop .p) (test .loop-test .taken))
+    let test = c .before .before in
+    let start = test .before .before .before .before .before .before in
+    omega (arith, start .pre .needed (test .before .loop .p) (test .loop-test .taken))
 
 row-met-requires : tie.Need-row-met-requires Inv-loop μ-loop
 row-met-requires c κs =
-    let test = c .before .before .before in
-    let loop = test .before in
-    let start = loop .before .before .before .before .before in
-    (start .pre .most, omega (arith, start .pre .most, start .pre .eight), rw (c .wide .ensures .0) (start .pre .needed (loop .loop .p) (test .loop-test .taken)))
+    let test = c .before .before in
+    let start = test .before .before .before .before .before .before in
+    (start .pre .most, omega (arith, start .pre .most, start .pre .eight), start .pre .needed (test .before .loop .p) (test .loop-test .taken))
 
 returns : tie.Need-returns Inv-loop μ-loop
 returns c =
-    let test = c .before .before .before .before .before in
+    let test = c .before .before .before .before in
     let loop = test .before .loop in
-    others-unmet _ _ _ _ _ _ (loop .low) (loop .sum) (loop .inv .0) _ (c .before .before .wide .ensures .0) (test .loop-test .taken) _ (c .before .row-met .ensures) (c .if1 .taken)
+    others-unmet _ _ _ _ _ _ (loop .low) (loop .sum) (loop .inv .0) _ refl (test .loop-test .taken) _ (c .before .row-met .ensures) (c .if1 .taken)
 
-mul-wide-2 : tie.Need-mul-wide-2 Inv-loop μ-loop
-mul-wide-2 c =
+mul-higher : tie.Need-mul-higher Inv-loop μ-loop
+mul-higher c =
+    let test = c .before .before .before .before in
+    let start = test .before .before .before .before .before .before in
+    omega (arith, start .pre .needed (test .before .loop .p) (test .loop-test .taken), start .good .0)
+
+shared-slice-read-higher : tie.Need-shared-slice-read-higher Inv-loop μ-loop
+shared-slice-read-higher c =
     let test = c .before .before .before .before .before in
-    let loop = test .before in
-    let start = loop .before .before .before .before .before in
-    omega (arith, start .pre .needed (loop .loop .p) (test .loop-test .taken), start .good .0)
+    let start = test .before .before .before .before .before .before in
+    omega (arith, start .pre .needed (test .before .loop .p) (test .loop-test .taken))
 
-shared-slice-read-wide-2 : tie.Need-shared-slice-read-wide-2 Inv-loop μ-loop
-shared-slice-read-wide-2 c =
-    let test = c .before .before .before .before .before .before in
-    let loop = test .before in
-    let start = loop .before .before .before .before .before in
-    omega (arith, start .pre .needed (loop .loop .p) (test .loop-test .taken))
-
-wide-requires-2 : tie.Need-wide-requires-2 Inv-loop μ-loop
-wide-requires-2 c κs = tt
+cast-higher : tie.Need-cast-higher Inv-loop μ-loop
+cast-higher c =
+    let p = c .before .before .before .before .before .before .loop .p in
+    let start = c .before .before .before .before .before .before .before .before .before .before .before in
+    omega (arith, c .shared-slice-known7 .given (8 * (at (start .args .bases .now) p + at (start .args .counts .now) p)))
 
 higher-requires : tie.Need-higher-requires Inv-loop μ-loop
 higher-requires c κs = tt
 
-mul-wide-3 : tie.Need-mul-wide-3 Inv-loop μ-loop
-mul-wide-3 c =
-    let test = c .before .before .before .before .before .before .before .before in
-    let loop = test .before in
-    let start = loop .before .before .before .before .before in
-    omega (arith, start .pre .weighed (loop .loop .p) (test .loop-test .taken), start .good .1 .0)
+mul-sum : tie.Need-mul-sum Inv-loop μ-loop
+mul-sum c =
+    let test = c .before .before .before .before .before .before in
+    let start = test .before .before .before .before .before .before in
+    omega (arith, start .pre .weighed (test .before .loop .p) (test .loop-test .taken), start .good .1 .0)
 
-shared-slice-read-wide-3 : tie.Need-shared-slice-read-wide-3 Inv-loop μ-loop
-shared-slice-read-wide-3 c =
-    let test = c .before .before .before .before .before .before .before .before .before in
-    let loop = test .before in
-    let start = loop .before .before .before .before .before in
-    omega (arith, start .pre .weighed (loop .loop .p) (test .loop-test .taken))
+shared-slice-read-sum : tie.Need-shared-slice-read-sum Inv-loop μ-loop
+shared-slice-read-sum c =
+    let test = c .before .before .before .before .before .before .before in
+    let start = test .before .before .before .before .before .before in
+    omega (arith, start .pre .weighed (test .before .loop .p) (test .loop-test .taken))
 
-wide-requires-3 : tie.Need-wide-requires-3 Inv-loop μ-loop
-wide-requires-3 c κs = tt
+cast-sum : tie.Need-cast-sum Inv-loop μ-loop
+cast-sum c =
+    let p = c .before .before .before .before .before .before .before .before .loop .p in
+    let start = c .before .before .before .before .before .before .before .before .before .before .before .before .before in
+    omega (arith, c .shared-slice-known8 .given (at (start .args .bases .now) p + at (start .args .counts .now) p))
 
 add-sum : tie.Need-add-sum Inv-loop μ-loop
 add-sum c =
-    let test = c .before .before .before .before .before .before .before .before .before .before in
-    let loop = test .before in
-    let start = loop .before .before .before .before .before in
-    omega (arith, loop .loop .inv .2 .small, start .pre .most)
+    let loop = c .before .before .before .before .before .before .before .before .loop in
+    let start = c .before .before .before .before .before .before .before .before .before .before .before .before .before in
+    omega (arith, loop .inv .2 .small, start .pre .most, c .shared-slice-known8 .given (at (start .args .bases .now) (loop .p) + at (start .args .counts .now) (loop .p)))
 
 add-p : tie.Need-add-p Inv-loop μ-loop
 add-p c = omega arith
@@ -114,9 +114,11 @@ loop-less c = omega arith
 
 loop-again : tie.Need-loop-again Inv-loop μ-loop
 loop-again c =
-    let test = c .before .before .before .before .before .before .before .before .before .before in
+    let test = c .before .before .before .before .before .before .before in
     let loop = test .before .loop in
-    others-more _ _ _ _ _ _ _ _ (loop .inv .0) _ (c .before .before .before .before .before .before .before .wide .ensures .0) (test .loop-test .taken) _ (c .before .before .before .before .before .before .row-met .ensures) _ _ _ (loop .inv .2) (c .before .before .before .before .before .if1 .left) (c .before .before .before .wide2 .ensures .0) (c .before .before .higher .ensures) (c .wide3 .ensures .0) (c .wide3 .ensures .1)
+    let start = test .before .before .before .before .before .before in
+    let light = c .shared-slice-known8 .given (at (start .args .bases .now) (loop .p) + at (start .args .counts .now) (loop .p)) in
+    others-more _ _ _ _ _ _ _ _ (loop .inv .0) _ refl (test .loop-test .taken) _ (c .before .before .before .before .row-met .ensures) _ _ _ (loop .inv .2) (c .before .before .before .if1 .left) refl (c .before .higher .ensures) refl (omega (arith, light))
 
 returns-2 : tie.Need-returns-2 Inv-loop μ-loop
 returns-2 c =
@@ -132,20 +134,20 @@ others-of-spec =
     loop-holds
     mul-at
     shared-slice-read-at
-    mul-wide
-    shared-slice-read-wide
-    wide-requires
+    mul-at-2
+    shared-slice-read-at-2
+    cast-at
     add-at
     mul-from
     row-met-requires
     returns
-    mul-wide-2
-    shared-slice-read-wide-2
-    wide-requires-2
+    mul-higher
+    shared-slice-read-higher
+    cast-higher
     higher-requires
-    mul-wide-3
-    shared-slice-read-wide-3
-    wide-requires-3
+    mul-sum
+    shared-slice-read-sum
+    cast-sum
     add-sum
     add-p
     loop-less
