@@ -62,7 +62,7 @@ fn is_window_good(s: &[u8], sum: bool, p: usize) -> bool
     is_pair_good(w.asked & !sum, w.low, w.high)
 }
 
-// Whether a pair of ends is in order: not upside down where it is used, else zero.
+// Whether a pair of ends, as excess numbers, is in order: not upside down where it is used, else zero, which is 32,768.
 fn is_pair_good(used: bool, low: u16, high: u16) -> bool
     ensures { λ r. ⌜ r ≡ cond used (leb low high) (eqb low 32768 && eqb high 32768) ⌝ }
 {

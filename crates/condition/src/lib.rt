@@ -72,7 +72,7 @@ pub fn weigh(c: Condition, p: usize, level: u16) -> u16
     }
 }
 
-// The limits of the sum that decides: a count is at most 8; excess levels make a sum 2,048 too large for each asked station.
+// The limits of the sum that decides. A count is at most 8, so 32,776; excess levels make a sum 2,048 too large for each asked station.
 pub fn limits_of(c: Condition) -> Limits
     ensures { λ r. ⌜ r ≡ limitsOf c ⌝ }
 {
