@@ -1,14 +1,14 @@
--- Laws of what a station adds to the sum that decides. In order: the eight windows of a condition; a window's test; what a station adds; the asked ones.
+-- Laws of what a station adds to the sum that decides. In order: the eight windows of a condition; a window's test; a test as a number; what a station adds.
 -- Assumes nothing.
 use mathlib.Core.Path.{_≡_, refl, sym, ap, _∙_}
-use mathlib.Core.Bool.{true, false, _&&_, cond}
+use mathlib.Core.Bool.{Bool, true, false, _&&_, cond}
 use mathlib.Core.Logic.{inl, inr}
 use mathlib.Core.List.{List, [], _∷_}
-use Prim.Native.Nat.{ℕ, _+_, _≤_}
+use Prim.Native.Nat.{ℕ, _+_, _*_, _≤_}
 use native.Mathlib.Omega.{arith}
 use lib.Dec.{leb}
 use lib.ListN.{length, length-map, List·getD-eq-default}
-use mir.Val.{Val}
+use mir.Val.{Val, boolByte}
 use denote.Laws.{Is}
 use types.Run.{OneOf}
 use denote.Struct.Declared.{row}
@@ -39,6 +39,20 @@ lies-excess w x =
     let e : x + 32768 ≡ x + 30720 + 2048 = omega arith in
     rw (sub-le (w .low) 32768 x 2048, sub-le x 2048 (w .high) 32768, e, leb-add (w .low) (x + 30720) 2048, leb-add (x + 30720) (w .high) 2048) refl
 
+-- a test as a number
+pub byte-one : (b : Bool) → boolByte b ≡ cond b 1 0
+byte-one true = refl
+byte-one false = refl
+
+pub byte-le : (b : Bool) → boolByte b ≤ 1
+byte-le true = omega arith
+byte-le false = omega arith
+
+-- x or nothing is not above x
+pub times-le : (b : Bool) (x : ℕ) → boolByte b * x ≤ x
+times-le true x = omega arith
+times-le false x = omega arith
+
 -- what a station adds, for a condition of kind k
 module _ (c : Condition) (p x : ℕ) where
   unaskedBy : (k : Kind) → windowAt c p .asked ≡ false → weighBy k c p x ≡ 0
@@ -52,19 +66,27 @@ module _ (c : Condition) (p x : ℕ) where
   unfolding weighOf
   weigh-unasked e = unaskedBy (c .kind) e
 
-  insideBy : (k : Kind) → OneOf (0 ∷ 1 ∷ []) (tagOf kind-type k) → windowAt c p .asked ≡ true → weighBy k c p x ≡ cond (lies (windowAt c p) (levelOf x)) 1 0
+  -- a station whose window is w is asked, and its level lies in the window
+  abbrev isInside : Window → Bool
+  isInside w = w .asked && (leb (w .low) (x + 30720) && leb (x + 30720) (w .high))
+
+  insideBy : (k : Kind) → OneOf (0 ∷ 1 ∷ []) (tagOf kind-type k) → boolByte (isInside (windowAt c p)) ≡ weighBy k c p x
   unfolding weighBy
-  insideBy Kind.Together o e = rw e refl
-  insideBy (Kind.AtLeast k) o e = rw e refl
-  insideBy (Kind.Sum low high) (inl o) e = let z : _≡_ {A = ℕ} 2 0 = o in absurd (omega arith)
-  insideBy (Kind.Sum low high) (inr o) e = let z : _≡_ {A = ℕ} 2 1 = o in absurd (omega arith)
+  insideBy Kind.Together o = rw (lies-excess (windowAt c p) x) (byte-one (isInside (windowAt c p)))
+  insideBy (Kind.AtLeast k) o = rw (lies-excess (windowAt c p) x) (byte-one (isInside (windowAt c p)))
+  insideBy (Kind.Sum low high) (inl o) = let z : _≡_ {A = ℕ} 2 0 = o in absurd (omega arith)
+  insideBy (Kind.Sum low high) (inr o) = let z : _≡_ {A = ℕ} 2 1 = o in absurd (omega arith)
 
-  -- an asked one adds 1 where its level lies in its window, for Together and At least
-  pub weigh-inside : OneOf (0 ∷ 1 ∷ []) (tagOf kind-type (c .kind)) → windowAt c p .asked ≡ true → weighOf c p x ≡ cond (lies (windowAt c p) (levelOf x)) 1 0
+  -- such a station adds 1, for Together and At least
+  pub weigh-inside : OneOf (0 ∷ 1 ∷ []) (tagOf kind-type (c .kind)) → boolByte (isInside (windowAt c p)) ≡ weighOf c p x
   unfolding weighOf
-  weigh-inside o e = insideBy (c .kind) o e
+  weigh-inside o = insideBy (c .kind) o
 
-  -- and its level for Sum
-  pub weigh-sum : {low high : ℕ} → c .kind ≡ Kind.Sum low high → windowAt c p .asked ≡ true → weighOf c p x ≡ x
+  -- and an asked one its level, for Sum
+  pub weigh-sum : {low high : ℕ} → c .kind ≡ Kind.Sum low high → boolByte (windowAt c p .asked) * x ≡ weighOf c p x
   unfolding weighOf weighBy
-  weigh-sum k e = rw (k, e) refl
+  weigh-sum k = rw k (go (windowAt c p .asked))
+    where
+      go : (a : Bool) → boolByte a * x ≡ cond a x 0
+      go true = omega arith
+      go false = omega arith

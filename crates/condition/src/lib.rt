@@ -1,10 +1,12 @@
 // The condition of document 01: read from its 38 bytes, and asked of levels.
 ghost use mathlib.Core.Path.{_≡_};
-ghost use mathlib.Core.Bool.{cond};
-ghost use Prim.Native.Nat.{_≤_};
+ghost use mathlib.Core.Bool.{_&&_};
+ghost use Prim.Native.Nat.{_+_, _≤_};
+ghost use lib.Dec.{leb};
+ghost use mir.Val.{boolByte};
 ghost use Rattle.cuts.specs.Cut.{at};
 ghost use Rattle.levels.specs.Level.{levelOf};
-ghost use Rattle.condition.specs.Condition.{readOf, lies, holdsOf};
+ghost use Rattle.condition.specs.Condition.{readOf, holdsOf};
 ghost use Rattle.condition.specs.Weigh.{weighOf, askedOf, limitsOf};
 
 mod fields;
@@ -62,18 +64,15 @@ pub fn weigh(c: Condition, p: usize, level: u16) -> u16
     if 8 <= p {
         return 0;
     }
-    let window = c.windows[p];
-    if !window.asked {
-        return 0;
-    }
+    let w = c.windows[p];
     let kind = c.kind;
     match kind {
-        Kind::Sum(_, _) => level,
-        _ => one_if(is_inside(window, level)),
+        Kind::Sum(_, _) => w.asked as u16 * level,
+        _ => one_inside(w.asked, w.low, w.high, level),
     }
 }
 
-// The limits of the sum that decides; excess levels make it 2,048 too large for each asked station.
+// The limits of the sum that decides. A count is at most 8, so 32,776; excess levels make a sum 2,048 too large for each asked station.
 pub fn limits_of(c: Condition) -> Limits
     ensures { λ r. ⌜ r ≡ limitsOf c ⌝ }
 {
@@ -82,16 +81,19 @@ pub fn limits_of(c: Condition) -> Limits
     match kind {
         Kind::Together => Limits {
             least: 32768 + asked,
-            most: 32768 + 8,
+            most: 32776,
         },
         Kind::AtLeast(k) => Limits {
             least: 32768 + k as usize,
-            most: 32768 + 8,
+            most: 32776,
         },
-        Kind::Sum(low, high) => Limits {
-            least: low as usize + 2048 * asked,
-            most: high as usize + 2048 * asked,
-        },
+        Kind::Sum(low, high) => {
+            let more = 2048 * asked;
+            Limits {
+                least: low as usize + more,
+                most: high as usize + more,
+            }
+        }
     }
 }
 
@@ -106,10 +108,7 @@ pub fn holds(c: Condition, levels: [u16; 8]) -> bool
         p += 1;
     }
     let l = limits_of(c);
-    if sum < l.least {
-        return false;
-    }
-    sum <= l.most
+    (l.least <= sum) & (sum <= l.most)
 }
 
 // The stations that are asked.
@@ -119,30 +118,16 @@ fn asked(c: Condition) -> usize
     let mut count: usize = 0;
     let mut p: usize = 0;
     while p < 8 {
-        let w = c.windows[p];
-        count += one_if(w.asked) as usize;
+        count += c.windows[p].asked as usize;
         p += 1;
     }
     count
 }
 
-// Whether the level, an excess number, lies in the window; 30,720 is 32,768 − 2,048.
-fn is_inside(w: Window, level: u16) -> bool
-    ensures { λ r. ⌜ r ≡ lies w (levelOf level) ⌝ }
+// 1 where the station is asked and its level, an excess number, lies in its window, else 0; 30,720 is 32,768 − 2,048.
+fn one_inside(asked: bool, low: u16, high: u16, level: u16) -> u16
+    ensures { λ r. ⌜ r ≡ boolByte (asked && (leb low (level + 30720) && leb (level + 30720) high)) ⌝ }
 {
     let v = level as usize + 30720;
-    if v < w.low as usize {
-        return false;
-    }
-    v <= w.high as usize
-}
-
-// 1 for true.
-fn one_if(b: bool) -> u16
-    ensures { λ r. ⌜ (r ≡ cond b 1 0) × (r ≤ 1) ⌝ }
-{
-    if b {
-        return 1;
-    }
-    0
+    (asked & ((low as usize <= v) & (v <= high as usize))) as u16
 }

@@ -14,7 +14,7 @@ use borrow.Author.Tests.{le-leb, lt-leb}
 use Rattle.text.specs.Text.{decimal, numbers, newline, textIn, takenBy, Printed}
 use Rattle.text.specs.Written.{wordOf, Measured, number, ended, stored, Written, Offered}
 use Rattle.text.specs.declared.Word.{Word}
-use Rattle.text.proofs.DecimalLaws.{decimal-digit, decimal-tens, length-digit, length-tens, numbers-more, length-numbers-take}
+use Rattle.text.proofs.DecimalLaws.{decimal-digit, decimal-tens, length-digit, length-tens, numbers-more, length-numbers-take, numbers-fit}
 
 pub length-stored : (room : List ℕ) (at : ℕ) (bytes : List ℕ) → length (stored room at bytes) ≡ length room
 unfolding stored
@@ -117,9 +117,14 @@ pub length-ended : (xs : List ℕ) → length (ended xs) ≡ length (numbers xs)
 unfolding ended
 length-ended xs = length-append (numbers xs) newline
 
--- where all of them and the newline fit, the newline does
-pub newline-fits : (xs : List ℕ) (i at next n : ℕ) → at + length (ended xs) ≤ n → next ≡ at + length (numbers (take i xs)) → next < n
-newline-fits xs i at next n h e = omega (arith, length-ended xs, length-numbers-take xs i)
+-- where all of them and the newline fit, the next number does, and the newline
+pub number-fits : (xs : List ℕ) (i : ℕ) {r₀ r₁ : List ℕ} {at next : ℕ} → Written (numbers (take i xs)) r₀ at next r₁ → at + length (ended xs) ≤ length r₀
+    → i < length xs → next + length (number (getD xs i 0)) ≤ length r₁
+number-fits xs i {r₀} {at = at} {next} w h l = rw (written-length w) (numbers-fit xs i at next (length r₀) l (omega (arith, length-ended xs)) (w .behind))
+
+pub newline-fits : (xs : List ℕ) (i : ℕ) {r₀ r₁ : List ℕ} {at next : ℕ} → Written (numbers (take i xs)) r₀ at next r₁ → at + length (ended xs) ≤ length r₀
+    → next < length r₁
+newline-fits xs i w h = rw (written-length w) (omega (arith, w .behind, length-ended xs, length-numbers-take xs i))
 
 -- an offered text that was put, and one that was not
 pub offered-whole : {text room after : List ℕ} {left next : ℕ} → length text ≤ left → Written text room 0 next after → Offered text left room next after

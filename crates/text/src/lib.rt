@@ -5,7 +5,7 @@ ghost use mathlib.Core.List.{_++_};
 ghost use Prim.Native.Nat.{_+_, _-_, _≤_, _<_, min};
 ghost use lib.ListN.{length};
 ghost use Rattle.cut.specs.Value.{countsOf};
-ghost use Rattle.text.specs.Text.{newline, numbers, possYes, possNo, defYes, defNo, refusedText, possText, defText, verdictText, Printed};
+ghost use Rattle.text.specs.Text.{newline, numbers, possYes, possNo, defYes, defNo, refusedText, defText, verdictText, Printed};
 ghost use Rattle.text.specs.Written.{wordOf, Measured, number, ended, line, Written, Offered};
 use cut::Cut;
 
@@ -60,43 +60,29 @@ pub fn verdicts(poss: bool, witness: Cut, def: bool, path: &[u8], room: &mut [u8
     ensures { λ r. ⌜ Printed (verdictText poss (countsOf witness) def (now (path .entry))) (now (room .entry)) r (now (room .exit)) ⌝ }
 {
     let left = left_by_def(def, path, room.len());
-    let at = put_poss(room, left, poss, witness);
-    if at == 0 {
-        return 0;
+    let counts = witness.counts;
+    let n = shown(poss, witness.n);
+    let at = put_line(room, left, poss_word(poss), &counts[..n]);
+    match at {
+        0 => 0,
+        _ => {
+            let next = put_word(room, at, def_word(def));
+            match def {
+                true => next,
+                false => put_path(room, next, path),
+            }
+        }
     }
-    put_def(room, at, def, path)
 }
 
 // What the second line leaves of as many bytes for the first: none where it does not fit.
 fn left_by_def(def: bool, path: &[u8], all: usize) -> usize
     ensures { λ r. ⌜ r ≡ all - length (defText def (now (path .entry))) ⌝ }
 {
-    if def {
-        return less(all, DEF_YES_LINE);
+    match def {
+        true => less(all, DEF_YES_LINE),
+        false => left_by_path(path, less(all, DEF_NO_LINE)),
     }
-    left_by_path(path, less(all, DEF_NO_LINE))
-}
-
-// The first line, at the front of the room, where it has no more bytes than are left.
-fn put_poss(room: &mut [u8], left: usize, poss: bool, witness: Cut) -> usize
-    requires { ⌜ left ≤ length (now room) ⌝ }
-    ensures { λ r. ⌜ Offered (possText poss (countsOf witness)) left (now (room .entry)) r (now (room .exit)) ⌝ }
-{
-    let counts = witness.counts;
-    let n = shown(poss, witness.n);
-    put_line(room, left, poss_word(poss), &counts[..n])
-}
-
-// The second line.
-fn put_def(room: &mut [u8], at: usize, def: bool, path: &[u8]) -> usize
-    requires { ⌜ at + length (defText def (now path)) ≤ length (now room) ⌝ }
-    ensures { λ r. ⌜ Written (defText def (now (path .entry))) (now (room .entry)) at r (now (room .exit)) ⌝ }
-{
-    let next = put_word(room, at, def_word(def));
-    if def {
-        return next;
-    }
-    put_path(room, next, path)
 }
 
 // A line at the front of the room, a word and then numbers, where it has no more bytes than are left; else 0, and nothing is changed.
@@ -104,11 +90,13 @@ fn put_line(room: &mut [u8], left: usize, word: Word, values: &[u16]) -> usize
     requires { ⌜ (left ≤ length (now room)) × Measured word × (length (now values) ≤ 8) ⌝ }
     ensures { λ r. ⌜ Offered (line (wordOf word) (now (values .entry))) left (now (room .entry)) r (now (room .exit)) ⌝ }
 {
-    if left < word.n + numbers_length(values) {
-        return 0;
+    match left < word.n + numbers_length(values) {
+        true => 0,
+        false => {
+            let next = put_word(room, 0, word);
+            put_numbers(room, next, values)
+        }
     }
-    let next = put_word(room, 0, word);
-    put_numbers(room, next, values)
 }
 
 // The length of at most eight numbers with a space before each, and of the newline.
@@ -218,20 +206,20 @@ fn put_number(room: &mut [u8], at: usize, x: u16) -> usize
 fn poss_word(poss: bool) -> Word
     ensures { λ r. ⌜ Measured r × (wordOf r ≡ cond poss possYes possNo) ⌝ }
 {
-    if poss {
-        return POSS_YES;
+    match poss {
+        true => POSS_YES,
+        false => POSS_NO,
     }
-    POSS_NO
 }
 
 // The word of the second line.
 fn def_word(def: bool) -> Word
     ensures { λ r. ⌜ Measured r × (wordOf r ≡ cond def (defYes ++ newline) defNo) ⌝ }
 {
-    if def {
-        return DEF_YES;
+    match def {
+        true => DEF_YES,
+        false => DEF_NO,
     }
-    DEF_NO
 }
 
 // How many counts the first line shows: n, at most eight; none behind "poss no".

@@ -8,6 +8,7 @@ use Rattle.cuts.specs.Below.{sumTo}
 use Rattle.cuts.proofs.BelowLaws.{sumTo-more}
 use Rattle.condition.specs.Condition.{windowAt}
 use Rattle.condition.specs.Weigh.{askedOf}
+use Rattle.condition.proofs.WeighLaws.{byte-one, byte-le}
 use Rattle.condition.proofs.asked.Statement.{statement}
 use Rattle.condition.proofs.asked.Tie as tie
 
@@ -21,20 +22,17 @@ loop-holds : tie.Need-loop-holds Inv-loop μ-loop
 unfolding sumTo
 loop-holds c = (omega arith, refl, omega arith)
 
-mul-w : tie.Need-mul-w Inv-loop μ-loop
-mul-w c = omega arith
+mul-count : tie.Need-mul-count Inv-loop μ-loop
+mul-count c = omega arith
 
-element-copy-out-w : tie.Need-element-copy-out-w Inv-loop μ-loop
-element-copy-out-w c = omega arith
-
-one-if-requires : tie.Need-one-if-requires Inv-loop μ-loop
-one-if-requires c κs = tt
+element-copy-out-count : tie.Need-element-copy-out-count Inv-loop μ-loop
+element-copy-out-count c = omega arith
 
 cast-count : tie.Need-cast-count Inv-loop μ-loop
-cast-count c = omega arith
+cast-count c = tt
 
 add-count : tie.Need-add-count Inv-loop μ-loop
-add-count c = omega arith
+add-count c = omega (arith, byte-le (windowAt (c .before .before .args .t1) (c .before .loop .p) .asked))
 
 add-p : tie.Need-add-p Inv-loop μ-loop
 add-p c = omega arith
@@ -43,7 +41,9 @@ loop-less : tie.Need-loop-less Inv-loop μ-loop
 loop-less c = omega arith
 
 loop-again : tie.Need-loop-again Inv-loop μ-loop
-loop-again c = (omega arith, rw (c .before .before .before .loop .inv .1, c .one-if .ensures .0) (sym (sumTo-more _ _)), omega arith)
+loop-again c =
+    let b = windowAt (c .before .before .args .t1) (c .before .loop .p) .asked in
+    (omega arith, rw (c .before .loop .inv .1, byte-one b) (sym (sumTo-more _ _)), omega (arith, byte-le b))
 
 returns : tie.Need-returns Inv-loop μ-loop
 unfolding askedOf
@@ -56,9 +56,8 @@ asked-spec =
     Inv-loop
     μ-loop
     loop-holds
-    mul-w
-    element-copy-out-w
-    one-if-requires
+    mul-count
+    element-copy-out-count
     cast-count
     add-count
     add-p

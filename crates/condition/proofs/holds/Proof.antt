@@ -4,7 +4,6 @@ use Prim.Native.Nat.{_+_, _*_, _-_, _≤_}
 use native.Mathlib.Nat.{le-antisymm}
 use native.Mathlib.Omega.{arith}
 use borrow.Author.Needs.{needs}
-use borrow.Author.Tests.{le-leb, lt-leb}
 use Rattle.cuts.specs.Below.{sumTo}
 use Rattle.cuts.specs.Cut.{at}
 use Rattle.condition.specs.Weigh.{weighOf}
@@ -54,14 +53,7 @@ returns c =
     let b = c .before .before in
     let l = b .before .before in
     let e = rw (le-antisymm (l .loop .inv .0) (b .before .loop-test .left)) at (l .loop .inv .1) in
-    rw (lt-leb _ _ (c .if1 .taken)) at (holds-sum _ _ (b .limits-of .result) (l .loop .sum) (b .limits-of .ensures) e)
-
-returns-2 : tie.Need-returns-2 Inv-loop μ-loop
-returns-2 c =
-    let b = c .before .before .before in
-    let l = b .before .before in
-    let e = rw (le-antisymm (l .loop .inv .0) (b .before .loop-test .left)) at (l .loop .inv .1) in
-    rw (le-leb _ _ (c .before .if1 .left)) at (holds-sum _ _ (b .limits-of .result) (l .loop .sum) (b .limits-of .ensures) e)
+    holds-sum _ _ _ _ (b .limits-of .ensures) e
 
 pub holds-spec : {M : Type 1} → statement M
 holds-spec =
@@ -79,5 +71,4 @@ holds-spec =
     loop-less
     loop-again
     limits-of-requires
-    returns
-    returns-2)
+    returns)

@@ -11,9 +11,6 @@ asked-requires c κs = tt
 enum-told : tie.Need-enum-told
 enum-told c = omega arith
 
-add-t8 : tie.Need-add-t8
-add-t8 c = omega arith
-
 add-t9 : tie.Need-add-t9
 add-t9 c = omega arith
 
@@ -26,29 +23,23 @@ cast-t10 c = omega arith
 add-t11 : tie.Need-add-t11
 add-t11 c = omega arith
 
-add-t12 : tie.Need-add-t12
-add-t12 c = omega arith
-
 enum-known-kind-2 : tie.Need-enum-known-kind-2
 enum-known-kind-2 c = omega arith
 
-cast-t13 : tie.Need-cast-t13
-cast-t13 c = omega arith
+mul-more : tie.Need-mul-more
+mul-more c = omega arith
 
-mul-t14 : tie.Need-mul-t14
-mul-t14 c = omega arith
+cast-t12 : tie.Need-cast-t12
+cast-t12 c = omega arith
+
+add-t13 : tie.Need-add-t13
+add-t13 c = omega arith
+
+cast-t14 : tie.Need-cast-t14
+cast-t14 c = omega arith
 
 add-t15 : tie.Need-add-t15
 add-t15 c = omega arith
-
-cast-t16 : tie.Need-cast-t16
-cast-t16 c = omega arith
-
-mul-t17 : tie.Need-mul-t17
-mul-t17 c = omega arith
-
-add-t18 : tie.Need-add-t18
-add-t18 c = omega arith
 
 returns : tie.Need-returns
 unfolding limitsOf limitsBy askedOf
@@ -68,19 +59,16 @@ limits-of-spec =
     (tie.spec
     asked-requires
     enum-told
-    add-t8
     add-t9
     enum-known-kind
     cast-t10
     add-t11
-    add-t12
     enum-known-kind-2
-    cast-t13
-    mul-t14
+    mul-more
+    cast-t12
+    add-t13
+    cast-t14
     add-t15
-    cast-t16
-    mul-t17
-    add-t18
     returns
     returns-2
     returns-3)

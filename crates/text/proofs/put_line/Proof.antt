@@ -10,16 +10,16 @@ numbers-length-requires c κs = omega arith
 add-if1 : tie.Need-add-if1
 add-if1 c = omega arith
 
-returns : tie.Need-returns
-returns c =
-    let N = c .before .before in
-    line-none _ _ _ _ _ (N .before .before .before .pre .1) (N .numbers-length .ensures .0) (omega arith)
-
 put-word-requires : tie.Need-put-word-requires
 put-word-requires c κs = omega arith
 
 put-numbers-requires : tie.Need-put-numbers-requires
 put-numbers-requires c κs = omega arith
+
+returns : tie.Need-returns
+returns c =
+    let N = c .before .before in
+    line-none _ _ _ _ _ (N .before .before .before .pre .1) (N .numbers-length .ensures .0) (omega arith)
 
 same-length : tie.Need-same-length
 same-length c = omega arith
@@ -38,8 +38,8 @@ put-line-spec =
     (tie.spec
     numbers-length-requires
     add-if1
-    returns
     put-word-requires
     put-numbers-requires
+    returns
     same-length
     returns-2)

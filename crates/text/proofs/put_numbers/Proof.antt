@@ -1,12 +1,11 @@
 -- After i turns the first i numbers are put; a turn puts one more, which fits since all do. The newline stands behind all.
 use mathlib.Core.Path.{_≡_, refl, _∙_}
-use Prim.Native.Nat.{_-_, _≤_}
+use Prim.Native.Nat.{_-_, _≤_, _<_}
 use native.Mathlib.Omega.{arith}
 use lib.ListN.{length, take, length-set}
 use Rattle.text.specs.Text.{numbers}
 use Rattle.text.specs.Written.{Written}
-use Rattle.text.proofs.DecimalLaws.{numbers-fit}
-use Rattle.text.proofs.TextLaws.{length-ended, numbers-none, numbers-then, ended-then, newline-fits}
+use Rattle.text.proofs.TextLaws.{numbers-none, numbers-then, ended-then, number-fits, newline-fits}
 use Rattle.text.proofs.put_numbers.Statement.{statement}
 use Rattle.text.proofs.put_numbers.Tie as tie
 
@@ -29,8 +28,8 @@ put-number-requires : tie.Need-put-number-requires Inv-loop μ-loop
 put-number-requires c κs =
     let I = c .before .before in
     let L = I .before .loop in
-    let a = I .before .before .before .before .args in
-    omega (arith, numbers-fit (a .values .now) (L .i) (a .at) (L .next) (length (a .room .now)) (I .loop-test .taken) (omega (arith, length-ended (a .values .now))) (L .inv .1 .behind))
+    let S = I .before .before .before .before in
+    number-fits (S .args .values .now) (L .i) (L .inv .1) (S .pre) (I .loop-test .taken)
 
 add-i : tie.Need-add-i Inv-loop μ-loop
 add-i c = omega arith
@@ -44,17 +43,18 @@ loop-again c =
     let I = P .before .before .before in
     (omega arith, numbers-then _ (I .loop-test .taken) (I .before .loop .inv .1) (P .put-number .ensures), P .put-number .kept .0 ∙ I .before .loop .inv .2)
 
-slice-write-room : tie.Need-slice-write-room Inv-loop μ-loop
-slice-write-room c =
+-- there is room for the newline
+last : (c : tie.After-loop Inv-loop μ-loop) → c .before .loop .next < length (c .before .loop .room)
+last c =
     let L = c .before .loop in
-    let a = c .before .before .before .before .args in
-    omega (arith, newline-fits (a .values .now) (L .i) (a .at) (L .next) (length (a .room .now)) (omega arith) (L .inv .1 .behind))
+    let S = c .before .before .before .before in
+    newline-fits (S .args .values .now) (L .i) (L .inv .1) (S .pre)
+
+slice-write-room : tie.Need-slice-write-room Inv-loop μ-loop
+slice-write-room c = last c
 
 add-result : tie.Need-add-result Inv-loop μ-loop
-add-result c =
-    let L = c .before .loop in
-    let a = c .before .before .before .before .args in
-    omega (arith, newline-fits (a .values .now) (L .i) (a .at) (L .next) (length (a .room .now)) (omega arith) (L .inv .1 .behind))
+add-result c = omega (arith, last c)
 
 same-length : tie.Need-same-length Inv-loop μ-loop
 same-length c = length-set (c .before .loop .room) (c .before .loop .next) 10 ∙ c .before .loop .inv .2

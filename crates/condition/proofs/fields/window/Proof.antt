@@ -1,55 +1,45 @@
 -- Each part is read as the definition says.
 use mathlib.Core.Path.{refl}
 use native.Mathlib.Omega.{arith}
-use Rattle.condition.specs.Condition.{windowOf, windowLow, windowHigh}
+use Rattle.bits.specs.Bits.{peeked}
+use Rattle.condition.specs.Condition.{windowOf, askedAt, windowLow, windowHigh}
 use Rattle.condition.proofs.fields.window.Statement.{statement}
 use Rattle.condition.proofs.fields.window.Tie as tie
 
-is-asked-requires : tie.Need-is-asked-requires
-is-asked-requires c κs = omega arith
+mul-at : tie.Need-mul-at
+mul-at c = omega arith
 
-mul-field-at : tie.Need-mul-field-at
-mul-field-at c = omega arith
+add-peek : tie.Need-add-peek
+add-peek c = omega arith
 
-add-field-at : tie.Need-add-field-at
-add-field-at c = omega arith
+peek-requires : tie.Need-peek-requires
+peek-requires c κs = tt
 
-field-at-requires : tie.Need-field-at-requires
-field-at-requires c κs = omega arith
+add-end-at : tie.Need-add-end-at
+add-end-at c = omega arith
 
-raised-requires : tie.Need-raised-requires
-raised-requires c κs = tt
+end-at-requires : tie.Need-end-at-requires
+end-at-requires c κs = tt
 
-mul-field-at-2 : tie.Need-mul-field-at-2
-mul-field-at-2 c = omega arith
+add-end-at-2 : tie.Need-add-end-at-2
+add-end-at-2 c = omega arith
 
-add-field-at-2 : tie.Need-add-field-at-2
-add-field-at-2 c = omega arith
-
-field-at-requires-2 : tie.Need-field-at-requires-2
-field-at-requires-2 c κs = omega arith
-
-raised-requires-2 : tie.Need-raised-requires-2
-raised-requires-2 c κs = tt
+end-at-requires-2 : tie.Need-end-at-requires-2
+end-at-requires-2 c κs = tt
 
 returns : tie.Need-returns
-unfolding windowOf windowLow windowHigh
-returns c =
-    let low = c .before .before in
-    rw (low .before .before .is-asked .ensures, low .raised .ensures, low .before .field-at .ensures .0)
-    (rw (c .raised2 .ensures, c .before .field-at2 .ensures .0) refl)
+unfolding windowOf askedAt windowLow windowHigh peeked
+returns c = rw (c .before .before .peek .ensures, c .before .end-at .ensures, c .end-at2 .ensures) refl
 
 pub window-spec : {M : Type 1} → statement M
 window-spec =
     tie.close
     (tie.spec
-    is-asked-requires
-    mul-field-at
-    add-field-at
-    field-at-requires
-    raised-requires
-    mul-field-at-2
-    add-field-at-2
-    field-at-requires-2
-    raised-requires-2
+    mul-at
+    add-peek
+    peek-requires
+    add-end-at
+    end-at-requires
+    add-end-at-2
+    end-at-requires-2
     returns)

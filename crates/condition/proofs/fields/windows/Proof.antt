@@ -1,31 +1,29 @@
--- Eight times the same window beside a refusal. Else after p turns the first p windows stand in front.
-use mathlib.Core.Path.{_≡_, refl, _∙_}
-use mathlib.Core.List.{_++_}
-use Prim.Native.Nat.{_-_, _≤_}
+-- Beside a refusal there is no turn. Else after p turns the first p windows stand in front.
+use mathlib.Core.Path.{_≡_, refl}
+use Prim.Native.Nat.{_-_}
 use native.Mathlib.Omega.{arith}
-use lib.ListN.{length, drop}
+use lib.ListN.{length}
 use Rattle.cuts.specs.Below.{tab}
 use Rattle.condition.specs.Condition.{windowOf}
-use Rattle.condition.proofs.FieldLaws.{windows-more, windows-full}
+use Rattle.condition.proofs.FieldLaws.{Filled, filled-none, filled-more, filled-full}
+use Rattle.condition.proofs.WeighLaws.{byte-le}
 use Rattle.condition.proofs.fields.windows.Statement.{statement}
 use Rattle.condition.proofs.fields.windows.Tie as tie
 
 abbrev Inv-loop : tie.InvT-loop
-Inv-loop s refused w₀ p₀ w p = (p ≤ 8) × (length w₀ ≡ 8) × (w ≡ tab p (windowOf s) ++ drop p w₀)
+Inv-loop s refused w₀ p₀ w p = (length w₀ ≡ 8) × Filled refused (windowOf s) w₀ w p
 
 abbrev μ-loop : tie.MeasureT-loop
 μ-loop s refused w₀ p₀ w p = 8 - p
 
-no-window-requires : tie.Need-no-window-requires Inv-loop μ-loop
-no-window-requires c κs = tt
+cast-p : tie.Need-cast-p Inv-loop μ-loop
+cast-p c = tt
 
-returns : tie.Need-returns Inv-loop μ-loop
-unfolding tab
-returns c = rw (c .if1 .taken, c .before .no-window .ensures) refl
+mul-p : tie.Need-mul-p Inv-loop μ-loop
+mul-p c = omega (arith, byte-le (c .before .args .refused))
 
 loop-holds : tie.Need-loop-holds Inv-loop μ-loop
-unfolding tab
-loop-holds c = (omega arith, refl, refl)
+loop-holds c = (refl, filled-none (c .before .args .refused) _ _)
 
 window-requires : tie.Need-window-requires Inv-loop μ-loop
 window-requires c κs = omega arith
@@ -43,10 +41,13 @@ loop-less : tie.Need-loop-less Inv-loop μ-loop
 loop-less c = omega arith
 
 loop-again : tie.Need-loop-again Inv-loop μ-loop
-loop-again c = (omega arith, c .before .before .loop .inv .1, rw (c .before .before .loop .inv .2, c .window .ensures) (windows-more _ _ _ (omega arith)))
+loop-again c =
+    let l = c .before .before .loop in
+    (l .inv .0, rw (c .window .ensures) (filled-more _ _ _ _ _ (l .inv .1) (c .before .loop-test .taken) (l .inv .0)))
 
-returns-2 : tie.Need-returns-2 Inv-loop μ-loop
-returns-2 c = rw (c .before .before .if1 .left) (c .before .loop .inv .2 ∙ windows-full _ _ _ _ (c .before .loop .inv .0) (c .loop-test .left) (c .before .loop .inv .1))
+returns : tie.Need-returns Inv-loop μ-loop
+unfolding tab
+returns c = filled-full _ _ _ _ _ (c .before .loop .inv .1) (c .loop-test .left) (c .before .loop .inv .0)
 
 pub windows-spec : {M : Type 1} → statement M
 windows-spec =
@@ -54,8 +55,8 @@ windows-spec =
     (tie.spec
     Inv-loop
     μ-loop
-    no-window-requires
-    returns
+    cast-p
+    mul-p
     loop-holds
     window-requires
     mul-w
@@ -63,4 +64,4 @@ windows-spec =
     add-p
     loop-less
     loop-again
-    returns-2)
+    returns)
