@@ -2,7 +2,7 @@
 -- number. Nothing here has to be believed: it only gives names to what the checks ask.
 use mathlib.Core.Bool.{_&&_, cond}
 use mathlib.Core.List.{List, [], _∷_}
-use Prim.Native.Nat.{ℕ, _-_, _*_, _/_, _%_}
+use Prim.Native.Nat.{ℕ, _+_, _-_, _*_, _/_, _%_}
 use lib.ListN.{length}
 use lib.Dec.{leb, eqb}
 use Rattle.bits.specs.Bits.{field}
@@ -36,6 +36,10 @@ checkedRecord R p e = atRecord p e (faultAt R p e)
 -- the first refusal among the records of the station at place p
 unfoldable pub checkedStation : Recording → ℕ → Checked
 checkedStation R p = scanTo (at (countsOf R) p) (checkedRecord R p)
+
+-- where a scan of n places goes on behind place i, which has the refusal v: the next place, or the end
+unfoldable pub nextOf : ℕ → ℕ → ℕ → ℕ
+nextOf i n v = cond (eqb v 0) (i + 1) n
 
 -- the refusal that one number stands for: 4,096 times the station, 8 times the event, and its own number ..
 unfoldable pub refusalBy : ℕ → Refusal

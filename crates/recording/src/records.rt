@@ -3,10 +3,10 @@ ghost use mathlib.Core.Path.{_≡_};
 ghost use Prim.Native.Nat.{_+_, _*_, _≤_, _<_};
 ghost use lib.ListN.{length};
 ghost use Rattle.recording.specs.Form.{nAt, recordingOf};
-ghost use Rattle.recording.specs.Check.{checkedRecords};
-ghost use Rattle.recording.specs.Decode.{Laid};
+ghost use Rattle.recording.specs.Check.{atRecord, checkedRecords};
+ghost use Rattle.recording.specs.Decode.{eventsAt, Laid};
 ghost use Rattle.recording.specs.Decoded.{RowsLaid, CheckedRows};
-ghost use Rattle.recording.specs.Fault.{formFault, headFault, endFault, checkedStation, refusalBy, checkedBy};
+ghost use Rattle.recording.specs.Fault.{formFault, headFault, endFault, checkedRecord, checkedStation, nextOf, refusalBy, checkedBy};
 use crate::Refusal;
 use crate::form;
 
@@ -81,15 +81,13 @@ pub fn scan_stations(lead: usize, w: usize, s: &[u8], rows: &[u16]) -> u16
     let n = form::stations(lead, s);
     let m = form::counts(lead, w, s, n);
     let firsts = form::firsts(lead, w, s, n);
+    let mut v: u16 = 0;
     let mut p: usize = 0;
     while p < n {
-        let v = scan_events(lead, w, s, n, m, firsts, rows, p);
-        if v != 0 {
-            return v;
-        }
-        p += 1;
+        v = scan_events(lead, w, s, n, m, firsts, rows, p);
+        p = next(p, n, v);
     }
-    0
+    v
 }
 
 // The first refusal among the records of the station at place p.
@@ -103,28 +101,62 @@ pub fn scan_events(
     rows: &[u16],
     p: usize,
 ) -> u16
-    requires { ⌜ (lead ≤ 8) × (1 ≤ w) × (w ≤ 9) × Laid lead w (now s) n m firsts (now rows) × (p < n) ⌝ }
+    requires { ⌜ (lead ≤ 8) × (w ≤ 9) × Laid lead w (now s) n m firsts (now rows) × (p < n) ⌝ }
     ensures { λ r. ⌜ checkedBy r ≡ checkedStation (recordingOf lead w (now (s .entry))) p ⌝ }
 {
-    let count = form::wide(m[p]);
+    let count = form::wide(form::events(lead, w, s, n, p));
+    let mut v: u16 = 0;
     let mut e: usize = 0;
     while e < count {
-        let b = form::record_bit(lead, w, n, firsts[p] + e);
-        let o = form::origin(s, b);
-        let k = faults::message_fault(n, m, firsts, rows, o, form::number(w, s, b), p, e);
-        if k != 0 {
-            return of_record(k, p, e);
-        }
-        e += 1;
+        v = record_fault(lead, w, s, n, m, firsts, rows, p, e);
+        e = next(e, count, v);
     }
-    0
+    v
 }
 
-// A refusal that is about event e + 1 of the station at place p.
+// Where a scan goes on behind place i: the next place, or the end behind a refusal.
+pub fn next(i: usize, end: usize, v: u16) -> usize
+    requires { ⌜ i < end ⌝ }
+    ensures { λ r. ⌜ r ≡ nextOf i end v ⌝ }
+{
+    if v != 0 {
+        return end;
+    }
+    i + 1
+}
+
+// The refusal of event e + 1 of the station at place p, if any.
+pub fn record_fault(
+    lead: usize,
+    w: usize,
+    s: &[u8],
+    n: usize,
+    m: [u16; 8],
+    firsts: [usize; 9],
+    rows: &[u16],
+    p: usize,
+    e: usize,
+) -> u16
+    requires { ⌜ (lead ≤ 8) × (w ≤ 9) × Laid lead w (now s) n m firsts (now rows) × (p < n) × (e < eventsAt lead w (now s) n p) ⌝ }
+    ensures { λ r. ⌜ checkedBy r ≡ checkedRecord (recordingOf lead w (now (s .entry))) p e ⌝ }
+{
+    let b = form::record_bit(lead, w, n, firsts[p] + e);
+    let o = form::origin(s, b);
+    of_record(
+        faults::message_fault(n, m, firsts, rows, o, form::number(w, s, b), p, e),
+        p,
+        e,
+    )
+}
+
+// A fault of event e + 1 of the station at place p as a refusal.
 pub fn of_record(number: u8, p: usize, e: usize) -> u16
     requires { ⌜ (number < 8) × (p < 8) × (e < 511) ⌝ }
-    ensures { λ r. ⌜ r ≡ 4096 * (p + 1) + 8 * (e + 1) + number ⌝ }
+    ensures { λ r. ⌜ checkedBy r ≡ atRecord p e number ⌝ }
 {
+    if number == 0 {
+        return 0;
+    }
     (4096 * (p + 1) + 8 * (e + 1) + number as usize) as u16
 }
 
