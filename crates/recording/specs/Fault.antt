@@ -1,6 +1,6 @@
 -- The faults of the whole, of a record and of a station, by their tests; the fault of a record out of flat tables is in `faults`; and a refusal as one
 -- number. Nothing here has to be believed: it only gives names to what the checks ask.
-use mathlib.Core.Bool.{_&&_, cond}
+use mathlib.Core.Bool.{cond}
 use mathlib.Core.List.{List, [], _∷_}
 use Prim.Native.Nat.{ℕ, _+_, _-_, _*_, _/_, _%_}
 use lib.ListN.{length}
@@ -16,10 +16,6 @@ use Rattle.recording.specs.declared.Checked.{Checked}
 -- the first test of the whole that fails
 unfoldable pub formFault : ℕ → ℕ → List ℕ → ℕ
 formFault lead w s = faultOf (formTests lead w s)
-
--- .. among those of a recording of len bytes and n stations, whose parts end in the byte head
-unfoldable pub headFault : ℕ → ℕ → ℕ → ℕ
-headFault len n head = faultOf (test 1 (leb 1 len) ∷ test 2 (leb 1 n && leb n 8) ∷ test 1 (leb head len) ∷ [])
 
 -- .. and among those of a recording that ends at the bit b
 unfoldable pub endFault : List ℕ → ℕ → ℕ

@@ -5,7 +5,7 @@ ghost use Prim.Native.Nat.{_+_, _*_, _≤_, _<_};
 ghost use lib.ListN.{length, take, drop};
 ghost use Rattle.cuts.specs.Below.{tab};
 ghost use Rattle.bits.specs.Bits.{field};
-ghost use Rattle.recording.specs.Form.{stationBit, recordBit, bytesFor, nAt, firstAt};
+ghost use Rattle.recording.specs.Form.{stationBit, recordBit, nAt, firstAt};
 ghost use Rattle.recording.specs.Decode.{eventsAt, recordsTo, startCell, levelCell, stampCell};
 ghost use Rattle.recording.specs.Decoded.{RowsLaid};
 
@@ -23,14 +23,6 @@ pub fn record_bit(lead: usize, w: usize, n: usize, r: usize) -> usize
     ensures { λ b. ⌜ (b ≡ recordBit lead w n r) × (b ≤ 400000) ⌝ }
 {
     station_bit(lead, w, n) + (4 + w + 12 + w * n) * r
-}
-
-// Whole bytes for a number of bits.
-pub fn bytes_for(bits: usize) -> usize
-    requires { ⌜ bits ≤ 400000 ⌝ }
-    ensures { λ r. ⌜ (r ≡ bytesFor bits) × (r ≤ 50001) ⌝ }
-{
-    (bits + 7) / 8
 }
 
 // n.

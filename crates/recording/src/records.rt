@@ -6,7 +6,7 @@ ghost use Rattle.recording.specs.Form.{nAt, recordingOf};
 ghost use Rattle.recording.specs.Check.{atRecord, checkedRecords};
 ghost use Rattle.recording.specs.Decode.{eventsAt, Laid};
 ghost use Rattle.recording.specs.Decoded.{RowsLaid, CheckedRows};
-ghost use Rattle.recording.specs.Fault.{formFault, headFault, endFault, checkedRecord, checkedStation, nextOf, refusalBy, checkedBy};
+ghost use Rattle.recording.specs.Fault.{formFault, endFault, checkedRecord, checkedStation, nextOf, refusalBy, checkedBy};
 use crate::Refusal;
 use crate::form;
 
@@ -23,36 +23,23 @@ pub fn check_rows(lead: usize, w: usize, s: &[u8], rows: &mut [u16]) -> u16
     scan_stations(lead, w, s, rows)
 }
 
-// The number of the first test of the whole that fails, 0 if none does.
+// The number of the first test of the whole that fails, 0 if none does. Stations' parts that are cut short are not looked for: the whole is too short
+// then, which has the same number.
 pub fn form_fault(lead: usize, w: usize, s: &[u8]) -> u16
-    requires { ⌜ (4 ≤ lead) × (lead ≤ 8) × (1 ≤ w) × (w ≤ 9) ⌝ }
+    requires { ⌜ (4 ≤ lead) × (lead ≤ 8) × (w ≤ 9) ⌝ }
     ensures { λ r. ⌜ r ≡ formFault lead w (now (s .entry)) ⌝ }
 {
-    let n = form::stations(lead, s);
-    let k = head_fault(s.len(), n, form::bytes_for(form::station_bit(lead, w, n)));
-    if k != 0 {
-        return k;
-    }
-    end_fault(s, form::record_bit(lead, w, n, form::total(lead, w, s)))
-}
-
-// The same of the tests of a recording of len bytes and n stations, whose parts end in the byte `head`.
-pub fn head_fault(len: usize, n: usize, head: usize) -> u16
-    ensures { λ r. ⌜ r ≡ headFault len n head ⌝ }
-{
-    if len < 1 {
+    if s.len() < 1 {
         return 1;
     }
+    let n = form::stations(lead, s);
     if n < 1 {
         return 2;
     }
     if 8 < n {
         return 2;
     }
-    if len < head {
-        return 1;
-    }
-    0
+    end_fault(s, form::record_bit(lead, w, n, form::total(lead, w, s)))
 }
 
 // The same of the tests of a recording that ends at the bit b.
@@ -60,11 +47,12 @@ pub fn end_fault(s: &[u8], b: usize) -> u16
     requires { ⌜ b ≤ 400000 ⌝ }
     ensures { λ r. ⌜ r ≡ endFault (now (s .entry)) b ⌝ }
 {
-    let needed = form::bytes_for(b);
-    if s.len() < needed {
+    let len = s.len();
+    let needed = (b + 7) / 8;
+    if len < needed {
         return 1;
     }
-    if needed < s.len() {
+    if needed < len {
         return 3;
     }
     if bits::peek(s, b, 8 * needed - b) != 0 {
