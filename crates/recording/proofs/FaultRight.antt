@@ -2,11 +2,12 @@
 -- `TablesRight`; and the records of every station lie in the table. In order: what the tables have; their room; a record. Assumes nothing.
 use mathlib.Core.Path.{_≡_, sym, ap, _∙_}
 use mathlib.Core.List.{List}
-use Prim.Native.Nat.{ℕ, _+_, _-_, _*_, _≤_, _<_, min}
+use Prim.Native.Nat.{ℕ, _+_, _-_, _*_, _%_, _≤_, _<_, min}
+use native.Mathlib.Nat.{mod-eq-of-lt}
 use native.Mathlib.Omega.{arith}
 use lib.ListN.{length, length-take}
 use lib.Seq.{getD-take}
-use Rattle.bits.specs.Bits.{field}
+use Rattle.bits.specs.Bits.{peeked}
 use Rattle.cuts.specs.Cut.{at}
 use Rattle.cuts.proofs.BelowLaws.{length-tab, getD-tab}
 use Rattle.recording.specs.Recording.{Recording, countsOf}
@@ -15,7 +16,7 @@ use Rattle.recording.specs.Decode.{eventsAt, recordsTo, stampCell, Laid}
 use Rattle.faults.specs.Fault.{tableFault}
 use Rattle.recording.specs.Fault.{faultAt}
 use Rattle.recording.proofs.FormLaws.{stations-read, count-read, origin-read, number-read}
-use Rattle.recording.proofs.PlaceLaws.{firstAt-more, firstAt-le, firstAt-mono, firstAt-lt}
+use Rattle.recording.proofs.PlaceLaws.{peeked-read, firstAt-more, firstAt-le, firstAt-mono, firstAt-lt}
 use Rattle.recording.proofs.DecodeLaws.{eventsAt-in, recordsTo-firstAt, firsts-at}
 use Rattle.recording.proofs.DecodeRight.{stampCell-stamp}
 use Rattle.recording.proofs.TablesRight.{Tables, table-right}
@@ -75,14 +76,16 @@ module _ {lead w n : ℕ} {s m firsts rows : List ℕ} (laid : Laid lead w s n m
   record-small p e hw hp he =
       omega (arith, first-laid p (omega arith), firstAt-lt lead w s p e n hp (omega (arith, eventsAt-in lead w s n p hp)), firstAt-le lead w s n hw)
 
-  -- a record's fault, by the origin and number that stand where it begins
-  pub record-right : (p e : ℕ) → p < n → e < eventsAt lead w s n p → (b o k f : ℕ) → b ≡ recordBit lead w n (at firsts p + e) → o ≡ field s b 4 → k ≡ field s (b + 4) w
-      → f ≡ tableFault n m firsts rows o k p e → f ≡ faultAt R p e
+  -- a record's fault, by the origin and number that were looked at where it begins
+  pub record-right : (p e : ℕ) → w ≤ 9 → p < n → e < eventsAt lead w s n p → (b x k f : ℕ) → b ≡ recordBit lead w n (at firsts p + e) → x ≡ peeked s b 4 → k ≡ peeked s (b + 4) w
+      → f ≡ tableFault n m firsts rows (x % 16) k p e → f ≡ faultAt R p e
   unfolding originAt numberAt
-  record-right p e hp he b o k f eb eo ek ef =
-      let x : b ≡ recordBit lead w (nAt lead s) (firstAt lead w s p + e) = rw (← (first-laid p (omega arith)), ← (laid .n-is)) eb in
+  record-right p e hw hp he b x k f eb ex ek ef =
+      let z : b ≡ recordBit lead w (nAt lead s) (firstAt lead w s p + e) = rw (← (first-laid p (omega arith)), ← (laid .n-is)) eb in
       let hm : e < mAt lead w s p = omega (arith, eventsAt-in lead w s n p hp) in
+      let (o, l) = peeked-read s b _ 4 4 x ex z (omega arith) (omega arith) in
+      let (i, _) = peeked-read s (b + 4) _ w 9 k ek (ap (λ (a : ℕ). a + 4) z) hw (omega arith) in
       ef
-      ∙ table-right laid-tables p e hp (omega (arith, m-laid p hp)) o k
-      (origin-read lead w s p e (omega arith) hm ∙ sym (rw x at eo))
-      (number-read lead w s p e (omega arith) hm ∙ sym (rw x at ek))
+      ∙ table-right laid-tables p e hp (omega (arith, m-laid p hp)) (x % 16) k
+      (origin-read lead w s p e (omega arith) hm ∙ sym (mod-eq-of-lt l ∙ o))
+      (number-read lead w s p e (omega arith) hm ∙ sym i)

@@ -4,7 +4,6 @@ ghost use mathlib.Core.List.{_++_};
 ghost use Prim.Native.Nat.{_+_, _*_, _≤_, _<_};
 ghost use lib.ListN.{length, take, drop};
 ghost use Rattle.cuts.specs.Below.{tab};
-ghost use Rattle.bits.specs.Bits.{field};
 ghost use Rattle.recording.specs.Form.{stationBit, recordBit, nAt, firstAt};
 ghost use Rattle.recording.specs.Decode.{eventsAt, recordsTo, startCell, levelCell, stampCell};
 ghost use Rattle.recording.specs.Decoded.{RowsLaid};
@@ -22,7 +21,7 @@ pub fn record_bit(lead: usize, w: usize, n: usize, r: usize) -> usize
     requires { ⌜ (lead ≤ 8) × (w ≤ 9) × (n ≤ 8) × (r ≤ 4096) ⌝ }
     ensures { λ b. ⌜ (b ≡ recordBit lead w n r) × (b ≤ 400000) ⌝ }
 {
-    station_bit(lead, w, n) + (4 + w + 12 + w * n) * r
+    station_bit(lead, w, n) + (16 + w + w * n) * r
 }
 
 // n.
@@ -30,7 +29,7 @@ pub fn stations(lead: usize, s: &[u8]) -> usize
     requires { ⌜ (4 ≤ lead) × (lead ≤ 8) ⌝ }
     ensures { λ r. ⌜ (r ≡ nAt lead (now (s .entry))) × (r < 16) ⌝ }
 {
-    wide(bits::peek(s, lead - 4, 4))
+    bits::peek(s, lead - 4, 4) as usize
 }
 
 // m of the station at place p, 0 beyond n.
@@ -68,7 +67,7 @@ pub fn firsts(lead: usize, w: usize, s: &[u8], n: usize) -> [usize; 9]
     let mut p: usize = 0;
     while p < 9 {
         f[p] = before;
-        before += wide(events(lead, w, s, n, p));
+        before += events(lead, w, s, n, p) as usize;
         p += 1;
     }
     f
@@ -106,22 +105,6 @@ pub fn starts(lead: usize, w: usize, s: &[u8], n: usize) -> [u16; 8]
         p += 1;
     }
     l
-}
-
-// The origin of the record that begins at the bit b.
-pub fn origin(s: &[u8], b: usize) -> u8
-    requires { ⌜ b ≤ 400000 ⌝ }
-    ensures { λ o. ⌜ (o ≡ field (now (s .entry)) b 4) × (o < 16) ⌝ }
-{
-    (bits::peek(s, b, 4) % 16) as u8
-}
-
-// Its sender's number.
-pub fn number(w: usize, s: &[u8], b: usize) -> usize
-    requires { ⌜ (w ≤ 9) × (b ≤ 400000) ⌝ }
-    ensures { λ k. ⌜ k ≡ field (now (s .entry)) (b + 4) w ⌝ }
-{
-    wide(bits::peek(s, b + 4, w))
 }
 
 // Number r of the table of levels.
@@ -181,11 +164,4 @@ pub fn copy(from: &[u16], k: usize, to: &mut [u16])
         to[i] = from[i];
         i += 1;
     }
-}
-
-// A number as a usize, with its bound.
-pub fn wide(x: u16) -> usize
-    ensures { λ r. ⌜ (r ≡ x) × (r < 65536) ⌝ }
-{
-    x as usize
 }

@@ -92,7 +92,7 @@ pub fn scan_events(
     requires { ⌜ (lead ≤ 8) × (w ≤ 9) × Laid lead w (now s) n m firsts (now rows) × (p < n) ⌝ }
     ensures { λ r. ⌜ checkedBy r ≡ checkedStation (recordingOf lead w (now (s .entry))) p ⌝ }
 {
-    let count = form::wide(form::events(lead, w, s, n, p));
+    let count = form::events(lead, w, s, n, p) as usize;
     let mut v: u16 = 0;
     let mut e: usize = 0;
     while e < count {
@@ -129,12 +129,9 @@ pub fn record_fault(
     ensures { λ r. ⌜ checkedBy r ≡ checkedRecord (recordingOf lead w (now (s .entry))) p e ⌝ }
 {
     let b = form::record_bit(lead, w, n, firsts[p] + e);
-    let o = form::origin(s, b);
-    of_record(
-        faults::message_fault(n, m, firsts, rows, o, form::number(w, s, b), p, e),
-        p,
-        e,
-    )
+    let o = (bits::peek(s, b, 4) % 16) as u8;
+    let k = bits::peek(s, b + 4, w) as usize;
+    of_record(faults::message_fault(n, m, firsts, rows, o, k, p, e), p, e)
 }
 
 // A fault of event e + 1 of the station at place p as a refusal.

@@ -25,30 +25,40 @@ record-bit-requires c κs =
     let (h, d, laid, hp, he) = c .before .before .pre in
     (h, d, laid .n-most, omega (arith, record-small laid _ _ d hp he))
 
-origin-requires : tie.Need-origin-requires
-origin-requires c κs = c .record-bit .ensures .1
+peek-requires : tie.Need-peek-requires
+peek-requires c κs = tt
 
-number-requires : tie.Need-number-requires
-number-requires c κs = (c .before .before .before .before .pre .1, c .before .record-bit .ensures .1)
+cast-o : tie.Need-cast-o
+cast-o c = omega arith
+
+add-peek : tie.Need-add-peek
+add-peek c = omega (arith, c .before .record-bit .ensures .1)
+
+peek-requires-2 : tie.Need-peek-requires-2
+peek-requires-2 c κs = tt
+
+cast-k : tie.Need-cast-k
+cast-k c = omega arith
 
 message-fault-requires : tie.Need-message-fault-requires
 message-fault-requires c κs = tt
 
 of-record-requires : tie.Need-of-record-requires
 of-record-requires c κs =
-    let b = c .before .before .before in
+    let k = c .before in
+    let b = k .before .before in
     let (_, d, laid, hp, he) = b .before .before .before .pre in
-    let f = record-right laid _ _ hp he _ _ _ _ (b .record-bit .ensures .0) (c .before .before .origin .ensures .0) (c .before .number .ensures) (c .message-fault .ensures) in
     let A = b .before .before .before .args in
+    let f = record-right laid _ _ d hp he _ _ _ _ (b .record-bit .ensures .0) (k .before .peek .ensures) (k .peek2 .ensures) (c .message-fault .ensures) in
     (faultAt-lt _ _ _ _ f, omega (arith, laid .n-most), omega (arith, he, eventsAt-lt (A .lead) (A .w) (A .s .now) (A .n) (A .p) d))
 
 returns : tie.Need-returns
 unfolding checkedRecord
 returns c =
-    let k = c .before in
-    let b = k .before .before .before in
-    let (_, _, laid, hp, he) = b .before .before .before .pre in
-    let f = record-right laid _ _ hp he _ _ _ _ (b .record-bit .ensures .0) (k .before .before .origin .ensures .0) (k .before .number .ensures) (k .message-fault .ensures) in
+    let k = c .before .before in
+    let b = k .before .before in
+    let (_, d, laid, hp, he) = b .before .before .before .pre in
+    let f = record-right laid _ _ d hp he _ _ _ _ (b .record-bit .ensures .0) (k .before .peek .ensures) (k .peek2 .ensures) (c .before .message-fault .ensures) in
     c .of-record .ensures ∙ ap (atRecord _ _) f
 
 pub record-fault-spec : {M : Type 1} → statement M
@@ -59,8 +69,11 @@ record-fault-spec =
     array-read-record-bit
     add-record-bit
     record-bit-requires
-    origin-requires
-    number-requires
+    peek-requires
+    cast-o
+    add-peek
+    peek-requires-2
+    cast-k
     message-fault-requires
     of-record-requires
     returns)

@@ -18,8 +18,8 @@ abbrev μ-loop : tie.MeasureT-loop
 events-requires : tie.Need-events-requires Inv-loop μ-loop
 events-requires c κs = let (h, d, laid, _) = c .before .before .pre in (h, d, omega (arith, laid .n-most))
 
-wide-requires : tie.Need-wide-requires Inv-loop μ-loop
-wide-requires c κs = tt
+cast-count : tie.Need-cast-count Inv-loop μ-loop
+cast-count c = omega arith
 
 loop-holds : tie.Need-loop-holds Inv-loop μ-loop
 loop-holds c = scan-begins _ _
@@ -27,8 +27,8 @@ loop-holds c = scan-begins _ _
 record-fault-requires : tie.Need-record-fault-requires Inv-loop μ-loop
 record-fault-requires c κs =
     let E = c .before .before in
-    let (h, d, laid, hp) = E .before .before .before .before .pre in
-    (h, d, laid, hp, omega (arith, c .loop-test .taken, E .wide .ensures .0, E .before .events .ensures .0))
+    let (h, d, laid, hp) = E .before .before .before .pre in
+    (h, d, laid, hp, omega (arith, c .loop-test .taken, E .events .ensures .0))
 
 next-requires : tie.Need-next-requires Inv-loop μ-loop
 next-requires c κs = c .before .loop-test .taken
@@ -47,8 +47,8 @@ returns : tie.Need-returns Inv-loop μ-loop
 unfolding checkedStation
 returns c =
     let E = c .before .before in
-    let (_, _, laid, hp) = E .before .before .before .before .pre in
-    scan-ends _ _ _ _ _ (c .before .loop .inv) (c .loop-test .left) (E .wide .ensures .0 ∙ E .before .events .ensures .0 ∙ events-read laid _ hp)
+    let (_, _, laid, hp) = E .before .before .before .pre in
+    scan-ends _ _ _ _ _ (c .before .loop .inv) (c .loop-test .left) (E .events .ensures .0 ∙ events-read laid _ hp)
 
 pub scan-events-spec : {M : Type 1} → statement M
 scan-events-spec =
@@ -57,7 +57,7 @@ scan-events-spec =
     Inv-loop
     μ-loop
     events-requires
-    wide-requires
+    cast-count
     loop-holds
     record-fault-requires
     next-requires
