@@ -3,6 +3,9 @@ use mathlib.Core.Path.{_≡_, refl, sym, ap, _∙_}
 use mathlib.Core.Bool.{Bool, true, false, _&&_, not}
 use mathlib.Core.List.{List, _++_}
 use Prim.Native.Nat.{ℕ, _*_, _≤_}
+use native.Mathlib.Omega.{arith}
+use mir.Syntax.{w64}
+use mir.Val.{Fits}
 use lib.Dec.{leb}
 use lib.ListN.{length, take, drop}
 use borrow.Author.Tests.{leb-true, le-leb, not-true, not-false}
@@ -18,6 +21,13 @@ use Rattle.recording.specs.declared.Checked.{Checked}
 use Rattle.recording.specs.declared.Decoded.{Decoded}
 use Rattle.recording.proofs.DecodeLaws.{stamps-some, levels-some}
 use Rattle.recording.proofs.FaultLaws.{checkedBy-0, checkedBy-refused}
+
+-- T is small, and so is the table of stamps: its length is a number, and the rows have it
+pub total-fits : (total : ℕ) → total ≤ 4088 → Fits w64 (8 * total)
+total-fits total h = record { fits = omega arith }
+
+pub total-room : (total room : ℕ) → total ≤ 4088 → room ≡ 32704 → 8 * total ≤ room
+total-room total room h e = omega arith
 
 -- neither room is too short
 pub fits-read : (short : Bool) (total x y : ℕ) → short ≡ not (leb (8 * total) x && leb total y) → short ≡ false → (8 * total ≤ x) × (total ≤ y)
