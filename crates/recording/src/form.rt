@@ -93,20 +93,6 @@ pub fn start(lead: usize, w: usize, s: &[u8], n: usize, p: usize) -> u16
     0
 }
 
-// The excess number of each station's start level, 0 beyond n.
-pub fn starts(lead: usize, w: usize, s: &[u8], n: usize) -> [u16; 8]
-    requires { ⌜ (lead ≤ 8) × (w ≤ 9) ⌝ }
-    ensures { λ r. ⌜ r ≡ tab 8 (startCell lead w (now (s .entry)) n) ⌝ }
-{
-    let mut l = [0u16; 8];
-    let mut p: usize = 0;
-    while p < 8 {
-        l[p] = start(lead, w, s, n, p);
-        p += 1;
-    }
-    l
-}
-
 // Number r of the table of levels.
 pub fn level_cell(lead: usize, w: usize, s: &[u8], n: usize, r: usize) -> u16
     requires { ⌜ (lead ≤ 8) × (w ≤ 9) × (n ≤ 8) × (r ≤ 4096) ⌝ }
