@@ -93,14 +93,6 @@ pub fn start(lead: usize, w: usize, s: &[u8], n: usize, p: usize) -> u16
     0
 }
 
-// Number r of the table of levels.
-pub fn level_cell(lead: usize, w: usize, s: &[u8], n: usize, r: usize) -> u16
-    requires { ⌜ (lead ≤ 8) × (w ≤ 9) × (n ≤ 8) × (r ≤ 4096) ⌝ }
-    ensures { λ l. ⌜ l ≡ levelCell lead w (now (s .entry)) n r ⌝ }
-{
-    levels::excess(bits::peek(s, record_bit(lead, w, n, r) + 4 + w, 12))
-}
-
 // Number j of the table of stamps.
 pub fn stamp_cell(lead: usize, w: usize, s: &[u8], n: usize, j: usize) -> u16
     requires { ⌜ (lead ≤ 8) × (w ≤ 9) × (n ≤ 8) × (j ≤ 32768) ⌝ }
@@ -135,7 +127,7 @@ pub fn lay_levels(lead: usize, w: usize, s: &[u8], total: usize, out: &mut [u16]
     let n = stations(lead, s);
     let mut r: usize = 0;
     while r < total {
-        out[r] = level_cell(lead, w, s, n, r);
+        out[r] = levels::excess(bits::peek(s, record_bit(lead, w, n, r) + 4 + w, 12));
         r += 1;
     }
 }
