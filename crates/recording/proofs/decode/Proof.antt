@@ -3,7 +3,7 @@ use mathlib.Core.Path.{sym}
 use Prim.Native.Nat.{ℕ}
 use lib.Dec.{lit≤}
 use lib.ListN.{length-replicate}
-use Rattle.recording.proofs.DecodedLaws.{total-fits, total-room, decode-refused, decode-short, decode-done, fits-read}
+use Rattle.recording.proofs.DecodedLaws.{some-le, some-fit, some-room, decode-refused, decode-short, decode-done, fits-read}
 use Rattle.recording.proofs.decode.Statement.{statement}
 use Rattle.recording.proofs.decode.Tie as tie
 
@@ -36,10 +36,10 @@ slice-aggregate-copy : tie.Need-slice-aggregate-copy
 slice-aggregate-copy c = sym (c .before .before .before .before .before .before .check-rows .ensures .room)
 
 mul-copy : tie.Need-mul-copy
-mul-copy c = total-fits _ (c .before .before .before .total .ensures .1)
+mul-copy c = some-fit _ _ (lit≤ tt) (c .before .before .before .total .ensures .1)
 
 copy-requires : tie.Need-copy-requires
-copy-requires c κs = (total-room _ _ (c .before .before .before .before .total .ensures .1) (c .before .before .before .before .before .before .before .check-rows .ensures .room), fits-read _ _ _ _ (c .before .before .before .short .ensures) (c .before .before .if2 .left) .0)
+copy-requires c κs = (some-room _ _ _ (lit≤ tt) (c .before .before .before .before .total .ensures .1) (c .before .before .before .before .before .before .before .check-rows .ensures .room), some-le _ _ _ (lit≤ tt) (fits-read _ _ _ _ (c .before .before .before .short .ensures) (c .before .before .if2 .left) .0))
 
 lay-levels-requires : tie.Need-lay-levels-requires
 lay-levels-requires c κs =
