@@ -1,4 +1,4 @@
--- Each way out of `decode` is one law: the checks refuse; a room is too short; both tables are laid. Assumes nothing.
+-- The table of stamps has room; and each way out of `decode` is one law: the checks refuse; a room is too short; both tables are laid. Assumes nothing.
 use mathlib.Core.Path.{_≡_, refl, sym, ap, _∙_}
 use mathlib.Core.Bool.{Bool, true, false, _&&_, not}
 use mathlib.Core.List.{List, _++_}

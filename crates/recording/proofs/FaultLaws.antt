@@ -1,4 +1,4 @@
--- Laws of a refusal as one number, of a record's fault and of what it is refused with, station by station. Assumes nothing.
+-- Laws of a refusal as one number, of a scan that ends at the first, and of a record's fault and what it is refused with, station by station. Assumes nothing.
 use mathlib.Core.Path.{_≡_, refl, sym, ap, _∙_}
 use mathlib.Core.Bool.{Bool, true, false, cond}
 use Prim.Native.Nat.{ℕ, _+_, _*_, _/_, _%_, _≤_, _<_}
