@@ -11,7 +11,7 @@ use native.Mathlib.Omega.{arith}
 use lib.Dec.{eqb}
 use borrow.Author.Tests.{eqb-true, eqb-false, ne-eqb}
 use Rattle.cuts.proofs.BelowLaws.{last-or-below}
-use Rattle.recording.specs.Check.{Test, faultOf, refusal, atRecord, atWhole, orElse, scanTo}
+use Rattle.recording.specs.Check.{Test, test, faultOf, refusal, atRecord, atWhole, orElse, scanTo}
 use Rattle.recording.specs.declared.Refusal.{Refusal}
 use Rattle.recording.specs.declared.Checked.{Checked}
 
@@ -48,21 +48,12 @@ pub fault-here : (t : Test) (ts : List Test) → t .passes ≡ false → faultOf
 unfolding faultOf
 fault-here t ts e = rw e refl
 
--- the tests of two lists, one after the other
-pub fault-front : (ts us : List Test) → (faultOf ts ≡ 0 → ⊥) → faultOf (ts ++ us) ≡ faultOf ts
+-- a test whose number the next has too, and which passes where that does
+pub fault-twice : (k : ℕ) (a b : Bool) (ts : List Test) → (b ≡ true → a ≡ true) → faultOf (test k a ∷ test k b ∷ ts) ≡ faultOf (test k b ∷ ts)
 unfolding faultOf
-fault-front [] us h = absurd (h refl)
-fault-front (t ∷ ts) us h = go (t .passes) h (fault-front ts us)
-  where
-    go : (b : Bool) → (cond b (faultOf ts) (t .number) ≡ 0 → ⊥) → ((faultOf ts ≡ 0 → ⊥) → faultOf (ts ++ us) ≡ faultOf ts)
-        → cond b (faultOf (ts ++ us)) (t .number) ≡ cond b (faultOf ts) (t .number)
-    go true h ih = ih h
-    go false h ih = refl
-
-pub pass-rest : {ts : List Test} → Pass ts → (us : List Test) → faultOf (ts ++ us) ≡ faultOf us
-unfolding faultOf
-pass-rest no-test us = refl
-pass-rest (and-then e h) us = rw e (pass-rest h us)
+fault-twice k true b ts h = refl
+fault-twice k false true ts h = let z : _≡_ {A = ℕ} 0 1 = ap (λ (x : Bool). cond x 1 0) (h refl) in absurd (omega arith)
+fault-twice k false false ts h = refl
 
 -- no number of a list's tests is above k
 pub no-fault : (k : ℕ) → faultOf [] ≤ k

@@ -11,14 +11,14 @@ use lib.Dec.{leb}
 use lib.ListN.{length, take, drop}
 use lib.Seq.{ext-getD, getD-take, length-take-le}
 use borrow.Author.Tests.{lt-ltb, le-ltb, le-leb, leb-true}
-use Rattle.bits.specs.Bits.{field}
+use Rattle.bits.specs.Bits.{field, peeked}
 use Rattle.levels.specs.Level.{excessOf}
 use Rattle.cuts.specs.Below.{sumTo, tab}
 use Rattle.cuts.specs.Cut.{at}
 use Rattle.cuts.proofs.BelowLaws.{and-true, length-tab, getD-tab, sumTo-more, sumTo-same}
-use Rattle.recording.specs.Form.{stationBit, nAt, mAt, firstAt, countAt}
+use Rattle.recording.specs.Form.{stationBit, recordBit, nAt, mAt, firstAt, levelAt, countAt}
 use Rattle.recording.specs.Decode.{eventsAt, recordsTo, startCell, stampCell, levelCell, stampsFit, stampsIn, levelsFit, levelsIn}
-use Rattle.recording.proofs.PlaceLaws.{mAt-lt, firstAt-le}
+use Rattle.recording.proofs.PlaceLaws.{peeked-read, mAt-lt, firstAt-le}
 
 module _ (lead w : ℕ) (s : List ℕ) (n : ℕ) where
   pub eventsAt-in : (p : ℕ) → p < n → eventsAt lead w s n p ≡ mAt lead w s p
@@ -99,6 +99,11 @@ module _ (lead w : ℕ) (s : List ℕ) (n : ℕ) where
 
   pub stampCell-none : (r q : ℕ) → n ≤ q → q < 8 → stampCell lead w s n (8 * r + q) ≡ 0
   stampCell-none r q h k = stampCell-beyond (8 * r + q) (omega arith)
+
+  -- a level that was looked at
+  pub level-read : (r b x y : ℕ) → b ≡ recordBit lead w n r → x ≡ peeked s (b + 4 + w) 12 → y ≡ excessOf x → y ≡ levelCell lead w s n r
+  unfolding levelCell levelAt
+  level-read r b x y eb ex ey = ey ∙ ap excessOf (peeked-read s _ _ 12 12 x ex (ap (λ (i : ℕ). i + 4 + w) eb) (omega arith) (omega arith) .0)
 
 -- a room that has k numbers, for a recording of n stations
 pub fits-true : (n k room : ℕ) → (leb n 8 && leb k room) ≡ true → (n ≤ 8) × (k ≤ room)

@@ -1,9 +1,13 @@
--- Each way out of `decode` is one law: the checks refuse; a room is too short; both tables are laid. Assumes nothing.
+-- The table of stamps has room; and each way out of `decode` is one law: the checks refuse; a room is too short; both tables are laid. Assumes nothing.
 use mathlib.Core.Path.{_≡_, refl, sym, ap, _∙_}
 use mathlib.Core.Bool.{Bool, true, false, _&&_, not}
 use mathlib.Core.List.{List, _++_}
 use Prim.Native.Nat.{ℕ, _*_, _≤_}
-use lib.Dec.{leb}
+use native.Mathlib.Nat.{le-trans, lt-of-le-of-lt, mul-le-mul-right}
+use native.Mathlib.Omega.{arith}
+use mir.Syntax.{w64}
+use mir.Val.{Fits}
+use lib.Dec.{leb, lit<}
 use lib.ListN.{length, take, drop}
 use borrow.Author.Tests.{leb-true, le-leb, not-true, not-false}
 use Rattle.cuts.specs.Below.{tab}
@@ -18,6 +22,16 @@ use Rattle.recording.specs.declared.Checked.{Checked}
 use Rattle.recording.specs.declared.Decoded.{Decoded}
 use Rattle.recording.proofs.DecodeLaws.{stamps-some, levels-some}
 use Rattle.recording.proofs.FaultLaws.{checkedBy-0, checkedBy-refused}
+
+-- up to eight numbers a record: how many they are is a number, the rows have room for them, and so has what has room for eight
+pub some-le : (k total x : ℕ) → k ≤ 8 → 8 * total ≤ x → k * total ≤ x
+some-le k total x h g = le-trans (mul-le-mul-right total h) g
+
+pub some-fit : (k total : ℕ) → k ≤ 8 → total ≤ 4088 → Fits w64 (k * total)
+some-fit k total h l = record { fits = lt-of-le-of-lt (some-le k total 32704 h (omega arith)) (lit< tt) }
+
+pub some-room : (k total room : ℕ) → k ≤ 8 → total ≤ 4088 → room ≡ 32704 → k * total ≤ room
+some-room k total room h l e = some-le k total room h (omega arith)
 
 -- neither room is too short
 pub fits-read : (short : Bool) (total x y : ℕ) → short ≡ not (leb (8 * total) x && leb total y) → short ≡ false → (8 * total ≤ x) × (total ≤ y)

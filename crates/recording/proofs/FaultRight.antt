@@ -2,20 +2,21 @@
 -- `TablesRight`; and the records of every station lie in the table. In order: what the tables have; their room; a record. Assumes nothing.
 use mathlib.Core.Path.{_≡_, sym, ap, _∙_}
 use mathlib.Core.List.{List}
-use Prim.Native.Nat.{ℕ, _+_, _-_, _*_, _≤_, _<_, min}
+use Prim.Native.Nat.{ℕ, _+_, _-_, _*_, _%_, _≤_, _<_, min}
+use native.Mathlib.Nat.{mod-eq-of-lt}
 use native.Mathlib.Omega.{arith}
 use lib.ListN.{length, length-take}
 use lib.Seq.{getD-take}
-use Rattle.bits.specs.Bits.{field}
+use Rattle.bits.specs.Bits.{peeked}
 use Rattle.cuts.specs.Cut.{at}
 use Rattle.cuts.proofs.BelowLaws.{length-tab, getD-tab}
 use Rattle.recording.specs.Recording.{Recording, countsOf}
 use Rattle.recording.specs.Form.{recordBit, nAt, mAt, firstAt, originAt, numberAt, recordingOf}
-use Rattle.recording.specs.Decode.{recordsTo, stampCell, Laid}
+use Rattle.recording.specs.Decode.{eventsAt, recordsTo, stampCell, Laid}
 use Rattle.faults.specs.Fault.{tableFault}
 use Rattle.recording.specs.Fault.{faultAt}
 use Rattle.recording.proofs.FormLaws.{stations-read, count-read, origin-read, number-read}
-use Rattle.recording.proofs.PlaceLaws.{mAt-lt, firstAt-more, firstAt-le, firstAt-mono, firstAt-lt}
+use Rattle.recording.proofs.PlaceLaws.{peeked-read, firstAt-more, firstAt-le, firstAt-mono, firstAt-lt}
 use Rattle.recording.proofs.DecodeLaws.{eventsAt-in, recordsTo-firstAt, firsts-at}
 use Rattle.recording.proofs.DecodeRight.{stampCell-stamp}
 use Rattle.recording.proofs.TablesRight.{Tables, table-right}
@@ -24,17 +25,17 @@ module _ {lead w n : ℕ} {s m firsts rows : List ℕ} (laid : Laid lead w s n m
   abbrev R : Recording
   R = recordingOf lead w s
 
-  pub n-read : length (countsOf R) ≡ n
+  n-read : length (countsOf R) ≡ n
   n-read = stations-read lead w s ∙ sym (laid .n-is)
 
-  pub m-laid : (p : ℕ) → p < n → at m p ≡ mAt lead w s p
+  m-laid : (p : ℕ) → p < n → at m p ≡ mAt lead w s p
   m-laid p h = ap (λ (l : List ℕ). at l p) (laid .counts-are) ∙ getD-tab 8 _ 0 p (omega arith) ∙ eventsAt-in lead w s n p h
 
-  pub m-read : (p : ℕ) → p < n → at m p ≡ at (countsOf R) p
+  m-read : (p : ℕ) → p < n → at m p ≡ at (countsOf R) p
   m-read p h = m-laid p h ∙ sym (count-read lead w s p (omega arith))
 
-  pub m-small : (p : ℕ) → w ≤ 9 → p < n → at m p < 512
-  m-small p hw h = omega (arith, m-laid p h, mAt-lt lead w s p hw)
+  pub events-read : (p : ℕ) → p < n → eventsAt lead w s n p ≡ at (countsOf R) p
+  events-read p h = eventsAt-in lead w s n p h ∙ sym (count-read lead w s p (omega arith))
 
   pub first-laid : (p : ℕ) → p ≤ n → at firsts p ≡ firstAt lead w s p
   first-laid p h = firsts-at lead w s n firsts (laid .firsts-are) (laid .n-most) p h
@@ -71,17 +72,20 @@ module _ {lead w n : ℕ} {s m firsts rows : List ℕ} (laid : Laid lead w s n m
         (stampCell-stamp lead w s p e (omega arith) k q (omega arith));
   }
 
-  pub record-small : (p e : ℕ) → w ≤ 9 → p < n → e < mAt lead w s p → at firsts p + e < 4096
-  record-small p e hw hp he = omega (arith, first-laid p (omega arith), firstAt-lt lead w s p e n hp he, firstAt-le lead w s n hw)
+  pub record-small : (p e : ℕ) → w ≤ 9 → p < n → e < eventsAt lead w s n p → at firsts p + e < 4096
+  record-small p e hw hp he =
+      omega (arith, first-laid p (omega arith), firstAt-lt lead w s p e n hp (omega (arith, eventsAt-in lead w s n p hp)), firstAt-le lead w s n hw)
 
-  -- a record's fault, by the origin and number that stand where it begins
-  pub record-right : (p e count : ℕ) → p < n → count ≡ at m p → e < count → (b o k f : ℕ) → b ≡ recordBit lead w n (at firsts p + e) → o ≡ field s b 4 → k ≡ field s (b + 4) w
-      → f ≡ tableFault n m firsts rows o k p e → f ≡ faultAt R p e
+  -- a record's fault, by the origin and number that were looked at where it begins
+  pub record-right : (p e : ℕ) → w ≤ 9 → p < n → e < eventsAt lead w s n p → (b x k f : ℕ) → b ≡ recordBit lead w n (at firsts p + e) → x ≡ peeked s b 4 → k ≡ peeked s (b + 4) w
+      → f ≡ tableFault n m firsts rows (x % 16) k p e → f ≡ faultAt R p e
   unfolding originAt numberAt
-  record-right p e count hp ec hc b o k f eb eo ek ef =
-      let x : b ≡ recordBit lead w (nAt lead s) (firstAt lead w s p + e) = rw (← (first-laid p (omega arith)), ← (laid .n-is)) eb in
-      let he : e < mAt lead w s p = omega (arith, m-laid p hp) in
+  record-right p e hw hp he b x k f eb ex ek ef =
+      let z : b ≡ recordBit lead w (nAt lead s) (firstAt lead w s p + e) = rw (← (first-laid p (omega arith)), ← (laid .n-is)) eb in
+      let hm : e < mAt lead w s p = omega (arith, eventsAt-in lead w s n p hp) in
+      let (o, l) = peeked-read s b _ 4 4 x ex z (omega arith) (omega arith) in
+      let (i, _) = peeked-read s (b + 4) _ w 9 k ek (ap (λ (a : ℕ). a + 4) z) hw (omega arith) in
       ef
-      ∙ table-right laid-tables p e hp (omega arith) o k
-      (origin-read lead w s p e (omega arith) he ∙ sym (rw x at eo))
-      (number-read lead w s p e (omega arith) he ∙ sym (rw x at ek))
+      ∙ table-right laid-tables p e hp (omega (arith, m-laid p hp)) (x % 16) k
+      (origin-read lead w s p e (omega arith) hm ∙ sym (mod-eq-of-lt l ∙ o))
+      (number-read lead w s p e (omega arith) hm ∙ sym i)

@@ -1,9 +1,9 @@
--- Laws of the tests of the whole: each way through the code is one law. In order: the tests of the head, test after test; whole bytes; those of the end;
--- both together; what holds where no test fails, and the tables then laid. Assumes nothing.
+-- Laws of the tests of the whole: each way through the code is one law. In order: whole bytes; the tests of the end; all of them; what holds where no test fails, and the tables then laid. Assumes nothing.
 use mathlib.Core.Path.{_≡_, refl, sym, ap, _∙_}
 use mathlib.Core.Bool.{true, _&&_}
 use mathlib.Core.List.{List, [], _∷_, _++_}
 use Prim.Native.Nat.{ℕ, _+_, _-_, _*_, _≤_, _<_}
+use native.Mathlib.Nat.{le-trans}
 use native.Mathlib.Omega.{arith}
 use lib.ListN.{length, drop}
 use lib.Seq.{take-at}
@@ -18,44 +18,10 @@ use Rattle.recording.specs.Form.{bytesFor, stationBit, recordBit, nAt, f
 use Rattle.recording.specs.Check.{Test, test, faultOf, refusal, formTests, checkedRecords, checkedOf}
 use Rattle.recording.specs.Decode.{eventsAt, recordsTo, stampCell, Laid}
 use Rattle.recording.specs.Decoded.{RowsLaid}
-use Rattle.recording.specs.Fault.{formFault, headFault, endFault}
-use Rattle.recording.proofs.CheckLaws.{Pass, and-then, no-number, and-number, fault-pass, fault-next, fault-here, fault-front, pass-rest, no-fault, fault-le, atWhole-0, atWhole-fault}
+use Rattle.recording.specs.Fault.{formFault, endFault}
+use Rattle.recording.proofs.CheckLaws.{Pass, and-then, fault-pass, fault-next, fault-here, fault-twice, no-fault, fault-le, atWhole-0, atWhole-fault}
 use Rattle.recording.proofs.AcceptedRight.{numbered}
 use Rattle.recording.proofs.DecodeLaws.{recordsTo-firstAt, recordsTo-beyond, recordsTo-most}
-
--- the head's tests
-module _ (len n head : ℕ) where
-  abbrev last : List Test
-  last = test 1 (leb head len) ∷ []
-
-  abbrev from-n : List Test
-  from-n = test 2 (leb 1 n && leb n 8) ∷ last
-
-  pub headFault-empty : len < 1 → 1 ≡ headFault len n head
-  unfolding headFault
-  headFault-empty a = sym (fault-here _ from-n (lt-leb 1 len a))
-
-  module _ (a : 1 ≤ len) where
-    pass-empty : headFault len n head ≡ faultOf from-n
-    unfolding headFault
-    pass-empty = fault-next _ from-n (le-leb 1 len a)
-
-    pub headFault-none : n < 1 → 2 ≡ headFault len n head
-    headFault-none b = sym (pass-empty ∙ fault-here _ last (rw (lt-leb 1 n b) refl))
-
-    pub headFault-many : 8 < n → 2 ≡ headFault len n head
-    headFault-many b = sym (pass-empty ∙ fault-here _ last (rw (le-leb 1 n (omega arith), lt-leb n 8 b) refl))
-
-    module _ (b : 1 ≤ n) (c : n ≤ 8) where
-      pass-n : headFault len n head ≡ faultOf last
-      pass-n = pass-empty ∙ fault-next _ last (rw (le-leb 1 n b, le-leb n 8 c) refl)
-
-      pub headFault-short : len < head → 1 ≡ headFault len n head
-      headFault-short d = sym (pass-n ∙ fault-here _ [] (lt-leb head len d))
-
-      pub headFault-right : head ≤ len → 0 ≡ headFault len n head
-      unfolding faultOf
-      headFault-right d = sym (pass-n ∙ fault-next _ [] (le-leb head len d))
 
 -- whole bytes hold the bits, and one less does not
 pub bytesFor-holds : (b : ℕ) → (b ≤ 8 * bytesFor b) × (8 * bytesFor b ≤ b + 7)
@@ -101,45 +67,46 @@ module _ (s : List ℕ) (b d : ℕ) (e : d ≡ bytesFor b) where
 stations-pass : {n : ℕ} → (leb 1 n && leb n 8) ≡ true → (1 ≤ n) × (n ≤ 8)
 stations-pass {n = n} h = let (x, y) = and-true (leb 1 n) (leb n 8) h in (leb-true _ _ x, leb-true _ _ y)
 
--- the two after each other are the tests of the whole
+-- the tests of the whole, with n as it was read; where the head is cut short the whole is
 module _ (lead w : ℕ) (s : List ℕ) where
-  abbrev n : ℕ
-  n = nAt lead s
+  abbrev from-end : List Test
+  from-end = test 1 (leb (needed lead w s) (length s)) ∷ test 3 (leb (length s) (needed lead w s)) ∷ test 4 (eqb (padding lead w s) 0) ∷ []
 
-  abbrev head : ℕ
-  head = bytesFor (stationBit lead w n)
+  abbrev from-head : List Test
+  from-head = test 1 (leb (bytesFor (stationBit lead w (nAt lead s))) (length s)) ∷ from-end
 
-  abbrev head-tests : List Test
-  head-tests = test 1 (leb 1 (length s)) ∷ test 2 (leb 1 n && leb n 8) ∷ test 1 (leb head (length s)) ∷ []
+  abbrev from-n : List Test
+  from-n = test 2 (leb 1 (nAt lead s) && leb (nAt lead s) 8) ∷ from-head
 
-  pub form-head : (headFault (length s) n head ≡ 0 → ⊥) → headFault (length s) n head ≡ formFault lead w s
-  unfolding formFault headFault
-  form-head h = sym (fault-front head-tests _ h)
+  head-needed : bytesFor (stationBit lead w (nAt lead s)) ≤ needed lead w s
+  unfolding needed bytesFor recordBit
+  head-needed = omega arith
 
-  head-pass : headFault (length s) n head ≡ 0 → Pass head-tests
-  unfolding headFault
-  head-pass h =
-      let h₁ : 0 < 1 = omega arith in
-      let h₂ : 0 < 2 = omega arith in
-      fault-pass head-tests (and-number h₁ (and-number h₂ (and-number h₁ no-number))) h
+  pub formFault-empty : length s < 1 → 1 ≡ formFault lead w s
+  unfolding formFault
+  formFault-empty a = sym (fault-here _ from-n (lt-leb 1 (length s) a))
 
-  pub form-end : headFault (length s) n head ≡ 0 → endFault s (recordBit lead w n (firstAt lead w s n)) ≡ formFault lead w s
-  unfolding formFault endFault needed padding
-  form-end h = sym (pass-rest (head-pass h) _)
+  module _ (a : 1 ≤ length s) (n : ℕ) (en : n ≡ nAt lead s) where
+    pass-empty : formFault lead w s ≡ faultOf from-n
+    unfolding formFault
+    pass-empty = fault-next _ from-n (le-leb 1 (length s) a)
 
-  -- what the code reads: n, and the bytes of the head and the end
-  pub head-read : {i a h k : ℕ} → i ≡ n → a ≡ stationBit lead w i → h ≡ bytesFor a → k ≡ headFault (length s) i h → k ≡ headFault (length s) n head
-  head-read ei ea eh ek = rw (ek, eh, ea, ei) refl
+    pub formFault-none : n < 1 → 2 ≡ formFault lead w s
+    formFault-none b = sym (pass-empty ∙ fault-here _ from-head (rw (lt-leb 1 (nAt lead s) (rw en at b)) refl))
 
-  pub end-read : {i t b k : ℕ} → i ≡ n → t ≡ firstAt lead w s n → b ≡ recordBit lead w i t → k ≡ endFault s b → k ≡ endFault s (recordBit lead w n (firstAt lead w s n))
-  end-read ei et eb ek = rw (ek, eb, et, ei) refl
+    pub formFault-many : 8 < n → 2 ≡ formFault lead w s
+    formFault-many b = sym (pass-empty ∙ fault-here _ from-head (rw (le-leb 1 (nAt lead s) (omega arith), lt-leb (nAt lead s) 8 (rw en at b)) refl))
 
-  -- where the head has no fault n is 1 to 8
-  pub head-stations : headFault (length s) n head ≡ 0 → (1 ≤ n) × (n ≤ 8)
-  head-stations h = go (head-pass h)
-    where
-      go : Pass head-tests → (1 ≤ n) × (n ≤ 8)
-      go (and-then a (and-then b r)) = stations-pass b
+    module _ (b : 1 ≤ n) (c : n ≤ 8) where
+      pass-head : formFault lead w s ≡ faultOf from-end
+      pass-head =
+          pass-empty
+          ∙ fault-next _ from-head (rw (le-leb 1 (nAt lead s) (rw en at b), le-leb (nAt lead s) 8 (rw en at c)) refl)
+          ∙ fault-twice 1 _ _ _ (λ h. le-leb (bytesFor (stationBit lead w (nAt lead s))) (length s) (le-trans head-needed (leb-true (needed lead w s) (length s) h)))
+
+      pub formFault-end : (t b k : ℕ) → t ≡ firstAt lead w s (nAt lead s) → b ≡ recordBit lead w n t → k ≡ endFault s b → k ≡ formFault lead w s
+      unfolding endFault needed padding
+      formFault-end t b k et eb ek = ek ∙ rw (eb, et, en) (sym pass-head)
 
 -- where no test fails
 module _ (lead w : ℕ) (s : List ℕ) where

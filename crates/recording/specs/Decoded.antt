@@ -17,10 +17,11 @@ pub record RowsLaid (lead w : ℕ) (s rows : List ℕ) : Type 0 where
   pub n-most : nAt lead s ≤ 8
   pub table : take (8 * firstAt lead w s (nAt lead s)) rows ≡ tab (8 * firstAt lead w s (nAt lead s)) (stampCell lead w s (nAt lead s))
 
--- the reply of the checks as one number, and where they accept the table of stamps
+-- the reply of the checks as one number, where they accept the table of stamps, and the rows as long as they were
 pub record CheckedRows (lead w : ℕ) (s : List ℕ) (v : ℕ) (rows : List ℕ) : Type 0 where
   pub reply : checkedBy v ≡ checkedOf lead w s
   pub laid : v ≡ 0 → RowsLaid lead w s rows
+  pub room : length rows ≡ 32704
 
 -- the refusal of the checks; else whether the rooms have the tables
 abbrev pub decodedBy : Checked → Bool → Decoded

@@ -1,8 +1,8 @@
 -- The faults of the whole, of a record and of a station, by their tests; the fault of a record out of flat tables is in `faults`; and a refusal as one
 -- number. Nothing here has to be believed: it only gives names to what the checks ask.
-use mathlib.Core.Bool.{_&&_, cond}
+use mathlib.Core.Bool.{cond}
 use mathlib.Core.List.{List, [], _∷_}
-use Prim.Native.Nat.{ℕ, _-_, _*_, _/_, _%_}
+use Prim.Native.Nat.{ℕ, _+_, _-_, _*_, _/_, _%_}
 use lib.ListN.{length}
 use lib.Dec.{leb, eqb}
 use Rattle.bits.specs.Bits.{field}
@@ -16,10 +16,6 @@ use Rattle.recording.specs.declared.Checked.{Checked}
 -- the first test of the whole that fails
 unfoldable pub formFault : ℕ → ℕ → List ℕ → ℕ
 formFault lead w s = faultOf (formTests lead w s)
-
--- .. among those of a recording of len bytes and n stations, whose parts end in the byte head
-unfoldable pub headFault : ℕ → ℕ → ℕ → ℕ
-headFault len n head = faultOf (test 1 (leb 1 len) ∷ test 2 (leb 1 n && leb n 8) ∷ test 1 (leb head len) ∷ [])
 
 -- .. and among those of a recording that ends at the bit b
 unfoldable pub endFault : List ℕ → ℕ → ℕ
@@ -36,6 +32,10 @@ checkedRecord R p e = atRecord p e (faultAt R p e)
 -- the first refusal among the records of the station at place p
 unfoldable pub checkedStation : Recording → ℕ → Checked
 checkedStation R p = scanTo (at (countsOf R) p) (checkedRecord R p)
+
+-- where a scan of n places goes on behind place i, which has the refusal v: the next place, or the end
+unfoldable pub nextOf : ℕ → ℕ → ℕ → ℕ
+nextOf i n v = cond (eqb v 0) (i + 1) n
 
 -- the refusal that one number stands for: 4,096 times the station, 8 times the event, and its own number ..
 unfoldable pub refusalBy : ℕ → Refusal

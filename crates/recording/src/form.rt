@@ -4,8 +4,7 @@ ghost use mathlib.Core.List.{_++_};
 ghost use Prim.Native.Nat.{_+_, _*_, _≤_, _<_};
 ghost use lib.ListN.{length, take, drop};
 ghost use Rattle.cuts.specs.Below.{tab};
-ghost use Rattle.bits.specs.Bits.{field};
-ghost use Rattle.recording.specs.Form.{stationBit, recordBit, bytesFor, nAt, firstAt};
+ghost use Rattle.recording.specs.Form.{stationBit, recordBit, nAt, firstAt};
 ghost use Rattle.recording.specs.Decode.{eventsAt, recordsTo, startCell, levelCell, stampCell};
 ghost use Rattle.recording.specs.Decoded.{RowsLaid};
 
@@ -22,15 +21,7 @@ pub fn record_bit(lead: usize, w: usize, n: usize, r: usize) -> usize
     requires { ⌜ (lead ≤ 8) × (w ≤ 9) × (n ≤ 8) × (r ≤ 4096) ⌝ }
     ensures { λ b. ⌜ (b ≡ recordBit lead w n r) × (b ≤ 400000) ⌝ }
 {
-    station_bit(lead, w, n) + (4 + w + 12 + w * n) * r
-}
-
-// Whole bytes for a number of bits.
-pub fn bytes_for(bits: usize) -> usize
-    requires { ⌜ bits ≤ 400000 ⌝ }
-    ensures { λ r. ⌜ (r ≡ bytesFor bits) × (r ≤ 50001) ⌝ }
-{
-    (bits + 7) / 8
+    station_bit(lead, w, n) + (16 + w + w * n) * r
 }
 
 // n.
@@ -38,7 +29,7 @@ pub fn stations(lead: usize, s: &[u8]) -> usize
     requires { ⌜ (4 ≤ lead) × (lead ≤ 8) ⌝ }
     ensures { λ r. ⌜ (r ≡ nAt lead (now (s .entry))) × (r < 16) ⌝ }
 {
-    wide(bits::peek(s, lead - 4, 4))
+    bits::peek(s, lead - 4, 4) as usize
 }
 
 // m of the station at place p, 0 beyond n.
@@ -76,7 +67,7 @@ pub fn firsts(lead: usize, w: usize, s: &[u8], n: usize) -> [usize; 9]
     let mut p: usize = 0;
     while p < 9 {
         f[p] = before;
-        before += wide(events(lead, w, s, n, p));
+        before += events(lead, w, s, n, p) as usize;
         p += 1;
     }
     f
@@ -100,44 +91,6 @@ pub fn start(lead: usize, w: usize, s: &[u8], n: usize, p: usize) -> u16
         return levels::excess(bits::peek(s, station_bit(lead, w, p) + w, 12));
     }
     0
-}
-
-// The excess number of each station's start level, 0 beyond n.
-pub fn starts(lead: usize, w: usize, s: &[u8], n: usize) -> [u16; 8]
-    requires { ⌜ (lead ≤ 8) × (w ≤ 9) ⌝ }
-    ensures { λ r. ⌜ r ≡ tab 8 (startCell lead w (now (s .entry)) n) ⌝ }
-{
-    let mut l = [0u16; 8];
-    let mut p: usize = 0;
-    while p < 8 {
-        l[p] = start(lead, w, s, n, p);
-        p += 1;
-    }
-    l
-}
-
-// The origin of the record that begins at the bit b.
-pub fn origin(s: &[u8], b: usize) -> u8
-    requires { ⌜ b ≤ 400000 ⌝ }
-    ensures { λ o. ⌜ (o ≡ field (now (s .entry)) b 4) × (o < 16) ⌝ }
-{
-    (bits::peek(s, b, 4) % 16) as u8
-}
-
-// Its sender's number.
-pub fn number(w: usize, s: &[u8], b: usize) -> usize
-    requires { ⌜ (w ≤ 9) × (b ≤ 400000) ⌝ }
-    ensures { λ k. ⌜ k ≡ field (now (s .entry)) (b + 4) w ⌝ }
-{
-    wide(bits::peek(s, b + 4, w))
-}
-
-// Number r of the table of levels.
-pub fn level_cell(lead: usize, w: usize, s: &[u8], n: usize, r: usize) -> u16
-    requires { ⌜ (lead ≤ 8) × (w ≤ 9) × (n ≤ 8) × (r ≤ 4096) ⌝ }
-    ensures { λ l. ⌜ l ≡ levelCell lead w (now (s .entry)) n r ⌝ }
-{
-    levels::excess(bits::peek(s, record_bit(lead, w, n, r) + 4 + w, 12))
 }
 
 // Number j of the table of stamps.
@@ -174,7 +127,7 @@ pub fn lay_levels(lead: usize, w: usize, s: &[u8], total: usize, out: &mut [u16]
     let n = stations(lead, s);
     let mut r: usize = 0;
     while r < total {
-        out[r] = level_cell(lead, w, s, n, r);
+        out[r] = levels::excess(bits::peek(s, record_bit(lead, w, n, r) + 4 + w, 12));
         r += 1;
     }
 }
@@ -189,11 +142,4 @@ pub fn copy(from: &[u16], k: usize, to: &mut [u16])
         to[i] = from[i];
         i += 1;
     }
-}
-
-// A number as a usize, with its bound.
-pub fn wide(x: u16) -> usize
-    ensures { λ r. ⌜ (r ≡ x) × (r < 65536) ⌝ }
-{
-    x as usize
 }

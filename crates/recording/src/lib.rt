@@ -99,5 +99,11 @@ pub fn starts(s: &[u8]) -> [u16; 8]
     ensures { λ r. ⌜ r ≡ startsOf lead8 width8 (now (s .entry)) ⌝ }
 {
     let n = form::stations(LEAD, s);
-    form::starts(LEAD, WIDTH, s, n)
+    let mut l = [0u16; 8];
+    let mut p: usize = 0;
+    while p < 8 {
+        l[p] = form::start(LEAD, WIDTH, s, n, p);
+        p += 1;
+    }
+    l
 }

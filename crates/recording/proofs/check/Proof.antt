@@ -1,7 +1,7 @@
 -- The rows are lent a table of zeros; the reply is what the number of the checks stands for.
 use mathlib.Core.Path.{sym, ap, _∙_}
 use Prim.Native.Nat.{ℕ}
-use native.Mathlib.Omega.{arith}
+use lib.Dec.{lit≤}
 use lib.ListN.{length-replicate}
 use Rattle.recording.specs.Fault.{checkedBy}
 use Rattle.recording.specs.declared.Checked.{Checked}
@@ -10,10 +10,10 @@ use Rattle.recording.proofs.check.Statement.{statement}
 use Rattle.recording.proofs.check.Tie as tie
 
 slice-aggregate-check-rows : tie.Need-slice-aggregate-check-rows
-slice-aggregate-check-rows c = omega arith
+slice-aggregate-check-rows c = sym (length-replicate {A = ℕ} 32704 0)
 
 check-rows-requires : tie.Need-check-rows-requires
-check-rows-requires c κs = (omega arith, omega arith, omega arith, omega arith, length-replicate {A = ℕ} 32704 0)
+check-rows-requires c κs = (lit≤ tt, lit≤ tt, lit≤ tt, lit≤ tt, length-replicate {A = ℕ} 32704 0)
 
 refusal-requires : tie.Need-refusal-requires
 refusal-requires c κs = tt

@@ -30,13 +30,13 @@ array-write-f c = omega arith
 events-requires : tie.Need-events-requires Inv-loop μ-loop
 events-requires c κs = omega arith
 
-wide-requires : tie.Need-wide-requires Inv-loop μ-loop
-wide-requires c κs = tt
+cast-before : tie.Need-cast-before Inv-loop μ-loop
+cast-before c = omega arith
 
 add-before : tie.Need-add-before Inv-loop μ-loop
 add-before c =
-    let A = c .before .before .before .before .before .args in
-    omega (arith, recordsTo-le (A .lead) (A .w) (A .s .now) (A .n) (c .before .before .before .loop .p) (omega arith))
+    let A = c .before .before .before .before .args in
+    omega (arith, recordsTo-le (A .lead) (A .w) (A .s .now) (A .n) (c .before .before .loop .p) (omega arith))
 
 add-p : tie.Need-add-p Inv-loop μ-loop
 add-p c = omega arith
@@ -46,9 +46,9 @@ loop-less c = omega arith
 
 loop-again : tie.Need-loop-again Inv-loop μ-loop
 loop-again c =
-    let L = c .before .before .before .loop in (
+    let L = c .before .before .loop in (
       omega arith,
-      rw (L .inv .1, c .wide .ensures .0, c .before .events .ensures .0) (sym (recordsTo-more _ _ _ _ _)),
+      rw (L .inv .1, c .events .ensures .0) (sym (recordsTo-more _ _ _ _ _)),
       rw (L .inv .2, L .inv .1) (tab-more (L .p) _ _ (omega arith)),
     )
 
@@ -65,7 +65,7 @@ firsts-spec =
     mul-f
     array-write-f
     events-requires
-    wide-requires
+    cast-before
     add-before
     add-p
     loop-less

@@ -7,6 +7,7 @@ use lib.ListN.{length, drop, length-set}
 use Rattle.cuts.specs.Below.{tab}
 use Rattle.cuts.proofs.TabLaws.{tab-none, tab-more, tab-front}
 use Rattle.recording.specs.Decode.{levelCell}
+use Rattle.recording.proofs.DecodeLaws.{level-read}
 use Rattle.recording.proofs.form.lay_levels.Statement.{statement}
 use Rattle.recording.proofs.form.lay_levels.Tie as tie
 
@@ -22,11 +23,23 @@ stations-requires c κs = omega arith
 loop-holds : tie.Need-loop-holds Inv-loop μ-loop
 loop-holds c = (omega arith, refl, tab-none _ _)
 
-level-cell-requires : tie.Need-level-cell-requires Inv-loop μ-loop
-level-cell-requires c κs =
+record-bit-requires : tie.Need-record-bit-requires Inv-loop μ-loop
+record-bit-requires c κs =
     let b = c .before .before in
     let (_, h, g, k, _, _) = b .before .before .before .pre in
     (h, g, omega (arith, b .stations .ensures .0), omega arith)
+
+add-peek : tie.Need-add-peek Inv-loop μ-loop
+add-peek c = omega arith
+
+add-peek-2 : tie.Need-add-peek-2 Inv-loop μ-loop
+add-peek-2 c = omega arith
+
+peek-requires : tie.Need-peek-requires Inv-loop μ-loop
+peek-requires c κs = tt
+
+excess-requires : tie.Need-excess-requires Inv-loop μ-loop
+excess-requires c κs = tt
 
 mul-out : tie.Need-mul-out Inv-loop μ-loop
 mul-out c = omega arith
@@ -42,10 +55,11 @@ loop-less c = omega arith
 
 loop-again : tie.Need-loop-again Inv-loop μ-loop
 loop-again c =
-    let L = c .before .before .loop in (
+    let b = c .before .before in
+    let L = b .before .before .loop in (
       omega arith,
       simp length-set (L .inv .1),
-      rw (L .inv .2, c .level-cell .ensures) (tab-more (L .r) _ _ (omega arith)),
+      rw (L .inv .2, level-read _ _ _ _ _ _ _ _ (b .record-bit .ensures .0) (c .before .peek .ensures) (c .excess .ensures)) (tab-more (L .r) _ _ (omega arith)),
     )
 
 same-length : tie.Need-same-length Inv-loop μ-loop
@@ -64,7 +78,11 @@ lay-levels-spec =
     μ-loop
     stations-requires
     loop-holds
-    level-cell-requires
+    record-bit-requires
+    add-peek
+    add-peek-2
+    peek-requires
+    excess-requires
     mul-out
     slice-write-out
     add-r

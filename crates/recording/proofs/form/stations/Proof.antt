@@ -1,5 +1,5 @@
 -- The last four leading bits are a field of four bits, below 16.
-use mathlib.Core.Path.{refl, _∙_}
+use mathlib.Core.Path.{refl}
 use native.Mathlib.Omega.{arith}
 use Rattle.recording.specs.Form.{nAt}
 use Rattle.recording.proofs.PlaceLaws.{peeked-read}
@@ -12,12 +12,12 @@ sub-peek c = omega arith
 peek-requires : tie.Need-peek-requires
 peek-requires c κs = tt
 
-wide-requires : tie.Need-wide-requires
-wide-requires c κs = tt
+cast-result : tie.Need-cast-result
+cast-result c = omega arith
 
 returns : tie.Need-returns
 unfolding nAt
-returns c = peeked-read _ _ _ 4 4 _ (c .wide .ensures .0 ∙ c .before .peek .ensures) refl (omega arith) (omega arith)
+returns c = peeked-read _ _ _ 4 4 _ (c .peek .ensures) refl (omega arith) (omega arith)
 
 pub stations-spec : {M : Type 1} → statement M
-stations-spec = tie.close (tie.spec sub-peek peek-requires wide-requires returns)
+stations-spec = tie.close (tie.spec sub-peek peek-requires cast-result returns)

@@ -12,7 +12,7 @@ form-fault-requires c κs = omega arith
 returns : tie.Need-returns
 returns c =
     let e = c .before .form-fault .ensures in
-    record { reply = checkedBy-whole _ (formFault-lt _ _ _ _ e) (c .if1 .taken) ∙ checkedOf-fault _ _ _ _ e (c .if1 .taken); laid = λ z. absurd (c .if1 .taken z) }
+    record { reply = checkedBy-whole _ (formFault-lt _ _ _ _ e) (c .if1 .taken) ∙ checkedOf-fault _ _ _ _ e (c .if1 .taken); laid = λ z. absurd (c .if1 .taken z); room = c .before .before .before .before .pre .4 }
 
 lay-stamps-requires : tie.Need-lay-stamps-requires
 lay-stamps-requires c κs =
@@ -28,7 +28,7 @@ same-length : tie.Need-same-length
 same-length c = omega arith
 
 returns-2 : tie.Need-returns-2
-returns-2 c = record { reply = c .scan-stations .ensures ∙ checkedOf-records _ _ _ (sym (c .before .before .before .before .before .before .before .form-fault .ensures) ∙ c .before .before .before .before .before .before .if1 .left); laid = λ z. c .before .before .before .before .lay-stamps .ensures }
+returns-2 c = record { reply = c .scan-stations .ensures ∙ checkedOf-records _ _ _ (sym (c .before .before .before .before .before .before .before .form-fault .ensures) ∙ c .before .before .before .before .before .before .if1 .left); laid = λ z. c .before .before .before .before .lay-stamps .ensures; room = omega arith }
 
 pub check-rows-spec : {M : Type 1} → statement M
 check-rows-spec =

@@ -1,7 +1,11 @@
--- The number is the sum of its three parts, which 16 bits hold.
+-- No fault is no refusal; else the number is the sum of its three parts, which 16 bits hold.
 use native.Mathlib.Omega.{arith}
+use Rattle.recording.proofs.FaultLaws.{checkedBy-right, checkedBy-fault}
 use Rattle.recording.proofs.records.of_record.Statement.{statement}
 use Rattle.recording.proofs.records.of_record.Tie as tie
+
+returns : tie.Need-returns
+returns c = checkedBy-right _ _ _ (c .if1 .taken)
 
 add-result : tie.Need-add-result
 add-result c = omega arith
@@ -24,13 +28,14 @@ add-result-4 c = omega arith
 cast-result : tie.Need-cast-result
 cast-result c = omega arith
 
-returns : tie.Need-returns
-returns c = omega arith
+returns-2 : tie.Need-returns-2
+returns-2 c = checkedBy-fault _ _ _ (omega arith) (omega arith) (c .if1 .left)
 
 pub of-record-spec : {M : Type 1} → statement M
 of-record-spec =
     tie.close
     (tie.spec
+    returns
     add-result
     mul-result
     add-result-2
@@ -38,4 +43,4 @@ of-record-spec =
     add-result-3
     add-result-4
     cast-result
-    returns)
+    returns-2)
