@@ -21,7 +21,7 @@ use Rattle.recording.specs.declared.Checked.{Checked}
 use Rattle.recording.proofs.SumLaws.{sumTo-most}
 use Rattle.recording.proofs.CheckLaws.{Pass, no-test, and-then, Numbered, no-number, and-number, pass-fault, fault-pass, fault-here, atWhole-0, atWhole-fault, atWhole-accepted, orElse-accepted}
 use Rattle.writer.proofs.WriterLaws.{answer-0, answer-refused, answer-whole}
-use Rattle.writer.proofs.GivenLaws.{wholeFault, whole-most, records-just}
+use Rattle.writer.proofs.GivenLaws.{whole-most, records-just}
 
 -- what the tests before the records say
 pub record Whole (g : Given) : Type 0 where
@@ -38,14 +38,18 @@ numbered g =
     let h₄ : 0 < 14 = omega arith in
     and-number h₂ (and-number h₁ (and-number h₃ (and-number h₄ no-number)))
 
-pub whole-says : (g : Given) → wholeFault g ≡ 0 → Whole g
-unfolding wholeFault
+pub whole-says : (g : Given) → faultOf (givenTests g) ≡ 0 → Whole g
 whole-says g h = go (fault-pass _ (numbered g) h)
   where
     go : Pass (givenTests g) → Whole g
     go (and-then a (and-then b (and-then d (and-then e no-test)))) =
         let (x, y) = and-true (leb 1 (g .n)) (leb (g .n) 8) a in
         record { least = leb-true 1 (g .n) x; most = leb-true (g .n) 8 y; records = records-just g b d; starts = every-true (g .n) _ e }
+
+-- records are few
+pub few-records : (g : Given) → Whole g → ((i : ℕ) → at (g .counts) i < 256) → length (g .origins) ≤ 2040
+unfolding firstGiven
+few-records g a b = omega (arith, a .records, a .most, sumTo-most (at (g .counts)) 255 (g .n) (λ p. omega (arith, b p)))
 
 -- the bytes needed, as the code works them out
 pub needed-is : (lead w : ℕ) (g : Given) (t i b : ℕ) → t ≡ firstGiven g (g .n) → i ≡ recordBit lead w (g .n) t → b ≡ bytesFor i → b ≡ neededGiven lead w g
@@ -65,14 +69,14 @@ module _ (lead w : ℕ) (g : Given) (room : ℕ) where
       go (and-then a no-test) = leb-true _ _ a
 
   -- refused before the records ..
-  pub answer-before : (k : ℕ) → k ≡ wholeFault g → (k ≡ 0 → ⊥) → answerOf k ≡ checkedGiven lead w g room
-  unfolding checkedGiven wholeFault
+  pub answer-before : (k : ℕ) → k ≡ faultOf (givenTests g) → (k ≡ 0 → ⊥) → answerOf k ≡ checkedGiven lead w g room
+  unfolding checkedGiven
   answer-before k e h = answer-whole k h (rw (← e) at (whole-most g)) ∙ rw (← e, atWhole-fault k h) refl
 
-  module _ (whole : wholeFault g ≡ 0) (v : ℕ) (ev : answerOf v ≡ scannedGiven g) where
+  module _ (whole : faultOf (givenTests g) ≡ 0) (v : ℕ) (ev : answerOf v ≡ scannedGiven g) where
     -- .. or for a record ..
     pub answer-scanned : (v ≡ 0 → ⊥) → answerOf v ≡ checkedGiven lead w g room
-    unfolding checkedGiven wholeFault scannedGiven
+    unfolding checkedGiven scannedGiven
     answer-scanned h = answer-refused v h ∙ rw (whole, atWhole-0, ← ev, answer-refused v h) refl
 
     module _ (fine : v ≡ 0) (b : ℕ) (eb : b ≡ neededGiven lead w g) where
@@ -81,14 +85,14 @@ module _ (lead w : ℕ) (g : Given) (room : ℕ) where
 
       -- .. or for the room, or not at all
       pub answer-room : room < b → answerOf 13 ≡ checkedGiven lead w g room
-      unfolding checkedGiven wholeFault scannedGiven
+      unfolding checkedGiven scannedGiven
       answer-room l =
           let k : room < neededGiven lead w g = rw eb at l in
           answer-whole 13 (λ e. omega arith) (omega arith)
           ∙ rw (whole, atWhole-0, all-fine, fault-here (test 13 (leb (neededGiven lead w g) room)) [] (lt-leb _ _ k), atWhole-fault 13 (λ e. omega arith)) refl
 
       pub answer-fine : b ≤ room → answerOf 0 ≡ checkedGiven lead w g room
-      unfolding checkedGiven wholeFault scannedGiven
+      unfolding checkedGiven scannedGiven
       answer-fine l =
           let k : neededGiven lead w g ≤ room = rw eb at l in
           answer-0 ∙ rw (whole, atWhole-0, all-fine, room-fault k, atWhole-0) refl
@@ -100,7 +104,7 @@ module _ (lead w : ℕ) (g : Given) (room : ℕ) where
     pub fits : neededGiven lead w g ≤ room
 
   pub accepts : checkedGiven lead w g room ≡ Checked.Accepted → Accepts
-  unfolding checkedGiven wholeFault
+  unfolding checkedGiven
   accepts h =
       let (a, b) = orElse-accepted _ _ h in
       let (d, e) = orElse-accepted _ _ b in
@@ -112,9 +116,3 @@ module _ (lead w : ℕ) (g : Given) (room : ℕ) where
 
   pub none-whole : (v : ℕ) → answerOf v ≡ checkedGiven lead w g room → v ≡ 0 → Whole g
   none-whole v e h = accepts (none-accepted v e h) .whole
-
-  pub none-few : (v : ℕ) → answerOf v ≡ checkedGiven lead w g room → v ≡ 0 → ((i : ℕ) → at (g .counts) i < 256) → length (g .origins) ≤ 2040
-  unfolding firstGiven
-  none-few v e h b =
-      let a = none-whole v e h in
-      omega (arith, a .records, a .most, sumTo-most (at (g .counts)) 255 (g .n) (λ p. omega (arith, b p)))

@@ -1,28 +1,26 @@
 -- What was handed to the writer, read as a recording: what its events say is what the lists hold. In order: the code's tables; the recording's counts and
 -- events; the tests before the records. Assumes nothing.
 use mathlib.Core.Path.{_≡_, refl, sym, ap, _∙_}
-use mathlib.Core.Bool.{Bool, true, false, _&&_}
+use mathlib.Core.Bool.{Bool, true, false, _&&_, cond}
 use mathlib.Core.List.{List, [], _∷_}
 use Prim.Native.Nat.{ℕ, suc, _+_, _-_, _*_, _≤_, _<_}
 use native.Mathlib.Decide.{decLe, decLt}
 use native.Mathlib.Omega.{arith}
 use lib.IntN.{pos}
 use lib.ListN.{length, getD, List·getD-eq-default}
-use lib.Dec.{leb}
-use borrow.Author.Tests.{le-leb, leb-true}
-use Rattle.cuts.proofs.ReplyLaws.{refuted}
+use lib.Dec.{leb, eqb}
+use borrow.Author.Tests.{leb-true}
 use Rattle.levels.specs.Level.{isLevel}
 use Rattle.cuts.specs.Below.{every, sumTo, tab}
 use Rattle.cuts.specs.Cut.{at}
 use Rattle.cuts.proofs.BelowLaws.{and-true, length-tab, getD-tab, sumTo-more}
 use Rattle.recording.specs.Recording.{Event, Recording, countsOf, eventAt, stamps, levels}
 use Rattle.writer.specs.Write.{Given, firstGiven, given, recordingGiven, longEnough, notLonger, givenTests}
-use Rattle.writer.specs.Tables.{lengthFault}
-use Rattle.recording.specs.Check.{faultOf}
+use Rattle.writer.specs.Tables.{lengthsFault, wholeFault}
+use Rattle.recording.specs.Check.{test, faultOf}
 use Rattle.recording.proofs.SumLaws.{sumTo-grows, sumTo-part, sumTo-most}
-use Rattle.writer.proofs.WriterLaws.{lengthsFault, lengths-none, lengths-more}
 use Rattle.recording.proofs.TabledLaws.{stations-tabled, count-tabled, event-tabled}
-use Rattle.recording.proofs.CheckLaws.{no-test, and-then, pass-fault, fault-next, fault-here, fault-le, no-fault}
+use Rattle.recording.proofs.CheckLaws.{fault-le, no-fault}
 
 -- the counts and the records before each station's, as the code has them, of counts that are bytes
 pub count-is : (counts m : List ℕ) → m ≡ tab 8 (at counts) → (p : ℕ) → p < 8 → at m p ≡ at counts p
@@ -113,64 +111,21 @@ module _ (g : Given) where
   unfolding firstGiven
   first-part p e h l = sumTo-part m n p e h l
 
-  pub total-is : (firsts : List ℕ) → firsts ≡ tab 9 (λ p. sumTo p m) → n ≤ 8 → at firsts n ≡ firstGiven g n
-  unfolding firstGiven
-  total-is firsts are high = first-is (g .counts) firsts are n high
+  -- the first test before the records that fails, as the code finds it
+  pub whole-is : wholeFault n (g .counts) (g .starts) (length (g .origins)) (length (g .numbers)) (length (g .levels)) (length (g .stamps)) ≡ faultOf (givenTests g)
+  unfolding wholeFault lengthsFault longEnough notLonger firstGiven faultOf
+  whole-is = go (leb 1 n && leb n 8) (longEnough g) (notLonger g) (every n (λ p. isLevel (getD (g .starts) p (pos 0))))
+    where
+      go : (a b c d : Bool) → cond a (cond (eqb (cond b (cond c 0 3) 1) 0) (cond d 0 14) (cond b (cond c 0 3) 1)) 2 ≡ faultOf (test 2 a ∷ test 1 b ∷ test 3 c ∷ test 14 d ∷ [])
+      go false b c d = refl
+      go true false c d = refl
+      go true true false d = refl
+      go true true true d = refl
 
-  -- the first test before the records that fails
-  unfoldable pub wholeFault : ℕ
-  wholeFault = faultOf (givenTests g)
-
-  pub whole-most : wholeFault < 16
-  unfolding wholeFault
+  pub whole-most : faultOf (givenTests g) < 16
   whole-most =
       let h : faultOf (givenTests g) ≤ 14 = fault-le _ _ 14 (omega arith) (fault-le _ _ 14 (omega arith) (fault-le _ _ 14 (omega arith) (fault-le _ _ 14 (omega arith) (no-fault 14)))) in
       omega (arith, h)
-
-  -- the faults of the lists' lengths, one list after the other, where t records are in all
-  pub lengths-are : (t k₁ k₂ k₃ k₄ k₅ k : ℕ) → t ≡ firstGiven g n → k₁ ≡ lengthFault 0 n (length (g .counts)) → k₂ ≡ lengthFault k₁ n (length (g .starts))
-      → k₃ ≡ lengthFault k₂ t (length (g .origins)) → k₄ ≡ lengthFault k₃ t (length (g .numbers)) → k₅ ≡ lengthFault k₄ t (length (g .levels))
-      → k ≡ lengthFault k₅ (t * n) (length (g .stamps)) → k ≡ lengthsFault (longEnough g) (notLonger g)
-  unfolding longEnough notLonger
-  lengths-are t k₁ k₂ k₃ k₄ k₅ k et e₁ e₂ e₃ e₄ e₅ e₆ =
-      rw (← et)
-      (e₆ ∙ lengths-more _ _ _ _ _ (e₅ ∙ lengths-more _ _ _ _ _ (e₄ ∙ lengths-more _ _ _ _ _ (e₃ ∙ lengths-more _ _ _ _ _ (e₂ ∙ lengths-more _ _ _ _ _ (e₁ ∙ lengths-more true true _ _ _ lengths-none))))))
-
-  -- the first test before the records that fails, as the code finds it
-  pub fault-stations : (1 ≤ n → n ≤ 8 → ⊥) → 2 ≡ wholeFault
-  unfolding wholeFault
-  fault-stations h = sym (fault-here _ _ (refuted _ (λ t. let (a, b) = and-true (leb 1 n) (leb n 8) t in h (leb-true 1 n a) (leb-true n 8 b))))
-
-  module _ (low : 1 ≤ n) (high : n ≤ 8) (k : ℕ) (are : k ≡ lengthsFault (longEnough g) (notLonger g)) where
-    in-order : (leb 1 n && leb n 8) ≡ true
-    in-order = simp (le-leb 1 n low, le-leb n 8 high)
-
-    pub fault-lengths : (k ≡ 0 → ⊥) → k ≡ wholeFault
-    unfolding wholeFault lengthsFault
-    fault-lengths h = go (longEnough g) (notLonger g) refl refl are
-      where
-        go : (a b : Bool) → longEnough g ≡ a → notLonger g ≡ b → k ≡ lengthsFault a b → k ≡ faultOf (givenTests g)
-        go false b x y e = e ∙ sym (fault-next _ _ in-order ∙ fault-here _ _ x)
-        go true false x y e = e ∙ sym (fault-next _ _ in-order ∙ fault-next _ _ x ∙ fault-here _ _ y)
-        go true true x y e = absurd (h e)
-
-    pub lengths-pass : k ≡ 0 → (longEnough g ≡ true) × (notLonger g ≡ true)
-    unfolding lengthsFault
-    lengths-pass h = go (longEnough g) (notLonger g) refl refl are
-      where
-        go : (a b : Bool) → longEnough g ≡ a → notLonger g ≡ b → k ≡ lengthsFault a b → (longEnough g ≡ true) × (notLonger g ≡ true)
-        go false b x y e = absurd (omega arith)
-        go true false x y e = absurd (omega arith)
-        go true true x y e = (x, y)
-
-    module _ (fine : k ≡ 0) (x : Bool) (ex : x ≡ every n (λ p. isLevel (getD (g .starts) p (pos 0)))) where
-      pub fault-level : x ≡ false → 14 ≡ wholeFault
-      unfolding wholeFault
-      fault-level h = let (a, b) = lengths-pass fine in sym (fault-next _ _ in-order ∙ fault-next _ _ a ∙ fault-next _ _ b ∙ fault-here _ _ (sym ex ∙ h))
-
-      pub fault-none : x ≡ true → wholeFault ≡ 0
-      unfolding wholeFault
-      fault-none h = let (a, b) = lengths-pass fine in pass-fault (and-then in-order (and-then a (and-then b (and-then (sym ex ∙ h) no-test))))
 
   -- lists neither too short nor too long have a record's part of each record
   pub records-just : longEnough g ≡ true → notLonger g ≡ true → length (g .origins) ≡ firstGiven g n

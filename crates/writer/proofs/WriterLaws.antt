@@ -1,5 +1,5 @@
 -- Laws of the writer's small steps, one for each `return`. In order: a level's bits; signed numbers; products; the table of stamps; the lists' lengths; the
--- level's test; a refusal as one number. Assumes nothing.
+-- tests before the records; the level's test; a refusal as one number. Assumes nothing.
 use mathlib.Core.Path.{_≡_, refl, sym, _∙_}
 use mathlib.Core.Bool.{Bool, true, false, _&&_, _||_, cond}
 use mathlib.Core.Logic.{_⊎_, inl, inr}
@@ -10,21 +10,23 @@ use native.Mathlib.Decide.{decLe}
 use native.Mathlib.Omega.{arith}
 use lib.Dec.{leb, ltb, eqb}
 use lib.IntN.{ℤ, pos}
-use lib.ListN.{getD}
+use lib.ListN.{length, getD}
 use lib.Signed.{mag}
 use mir.Syntax.{w16}
 use mir.Val.{toZ, ofZ}
 use mir.Facts.{toZ-ofZ}
 use borrow.Author.Needs.{sfits-of}
-use borrow.Author.Tests.{le-leb, lt-leb, lt-ltb, le-ltb, eq-eqb, ne-eqb}
+use borrow.Author.Tests.{leb-true, le-leb, lt-leb, lt-ltb, le-ltb, eq-eqb, ne-eqb}
 use Rattle.levels.specs.Level.{bitsOf, isLevel, fieldOf}
 use Rattle.levels.specs.declared.Fitted.{Fitted}
 use Rattle.levels.proofs.LevelLaws.{level-bits}
 use Rattle.cuts.specs.Cut.{at}
-use Rattle.cuts.proofs.BelowLaws.{or-right}
+use Rattle.cuts.specs.Below.{every, sumTo}
+use Rattle.cuts.proofs.BelowLaws.{and-true, or-right}
+use Rattle.cuts.proofs.ReplyLaws.{refuted}
 use Rattle.recording.specs.Check.{refusal}
 use Rattle.faults.specs.Fault.{tableFault}
-use Rattle.writer.specs.Tables.{codeOf, refusalOf, answerOf, lengthFault, levelBits, levelFault, givenFault, givenCell}
+use Rattle.writer.specs.Tables.{codeOf, refusalOf, answerOf, lengthFault, lengthsFault, wholeFault, levelBits, levelFault, givenFault, givenCell}
 use Rattle.recording.specs.declared.Refusal.{Refusal}
 use Rattle.recording.specs.declared.Checked.{Checked}
 
@@ -100,23 +102,81 @@ module _ (k needs has : ℕ) where
   length-just h z l = rw (le-leb needs has h, eq-eqb k 0 z, le-leb has needs l) refl
 
 -- 1 unless all are long enough, else 3 unless none is longer
-unfoldable pub lengthsFault : Bool → Bool → ℕ
-lengthsFault long short = cond long (cond short 0 3) 1
+unfoldable byLength : Bool → Bool → ℕ
+byLength long short = cond long (cond short 0 3) 1
 
-pub lengths-none : 0 ≡ lengthsFault true true
-unfolding lengthsFault
+lengths-none : 0 ≡ byLength true true
+unfolding byLength
 lengths-none = refl
 
-pub lengths-more : (a b : Bool) (k needs has : ℕ) → k ≡ lengthsFault a b → lengthFault k needs has ≡ lengthsFault (a && leb needs has) (b && leb has needs)
-unfolding lengthFault lengthsFault
+lengths-more : (a b : Bool) (k needs has : ℕ) → k ≡ byLength a b → lengthFault k needs has ≡ byLength (a && leb needs has) (b && leb has needs)
+unfolding lengthFault byLength
 lengths-more a b k needs has e = rw e (go a b (leb needs has) (leb has needs))
   where
-    go : (a b c d : Bool) → cond c (cond (eqb (lengthsFault a b) 0) (cond d 0 3) (lengthsFault a b)) 1 ≡ lengthsFault (a && c) (b && d)
+    go : (a b c d : Bool) → cond c (cond (eqb (byLength a b) 0) (cond d 0 3) (byLength a b)) 1 ≡ byLength (a && c) (b && d)
     go false b true d = refl
     go false b false d = refl
     go true false true d = refl
     go true false false d = refl
     go true true c d = refl
+
+-- one list after the other
+pub lengths-are : (n t c₁ c₂ c₃ c₄ c₅ c₆ k₁ k₂ k₃ k₄ k₅ k : ℕ) → k₁ ≡ lengthFault 0 n c₁ → k₂ ≡ lengthFault k₁ n c₂ → k₃ ≡ lengthFault k₂ t c₃ → k₄ ≡ lengthFault k₃ t c₄
+    → k₅ ≡ lengthFault k₄ t c₅ → k ≡ lengthFault k₅ (t * n) c₆ → k ≡ lengthsFault n t c₁ c₂ c₃ c₄ c₅ c₆
+unfolding byLength lengthsFault
+lengths-are n t c₁ c₂ c₃ c₄ c₅ c₆ k₁ k₂ k₃ k₄ k₅ k e₁ e₂ e₃ e₄ e₅ e₆ = go (go₅ (go₄ (go₃ (go₂ go₁))))
+  where
+    go₁ : k₁ ≡ byLength (leb n c₁) (leb c₁ n)
+    go₁ = e₁ ∙ lengths-more true true 0 n c₁ lengths-none
+
+    go₂ : k₁ ≡ byLength (leb n c₁) (leb c₁ n) → k₂ ≡ byLength (leb n c₁ && leb n c₂) (leb c₁ n && leb c₂ n)
+    go₂ h = e₂ ∙ lengths-more (leb n c₁) (leb c₁ n) k₁ n c₂ h
+
+    go₃ : k₂ ≡ byLength (leb n c₁ && leb n c₂) (leb c₁ n && leb c₂ n) → k₃ ≡ byLength (leb n c₁ && leb n c₂ && leb t c₃) (leb c₁ n && leb c₂ n && leb c₃ t)
+    go₃ h = e₃ ∙ lengths-more (leb n c₁ && leb n c₂) (leb c₁ n && leb c₂ n) k₂ t c₃ h
+
+    go₄ : k₃ ≡ byLength (leb n c₁ && leb n c₂ && leb t c₃) (leb c₁ n && leb c₂ n && leb c₃ t)
+        → k₄ ≡ byLength (leb n c₁ && leb n c₂ && leb t c₃ && leb t c₄) (leb c₁ n && leb c₂ n && leb c₃ t && leb c₄ t)
+    go₄ h = e₄ ∙ lengths-more (leb n c₁ && leb n c₂ && leb t c₃) (leb c₁ n && leb c₂ n && leb c₃ t) k₃ t c₄ h
+
+    go₅ : k₄ ≡ byLength (leb n c₁ && leb n c₂ && leb t c₃ && leb t c₄) (leb c₁ n && leb c₂ n && leb c₃ t && leb c₄ t)
+        → k₅ ≡ byLength (leb n c₁ && leb n c₂ && leb t c₃ && leb t c₄ && leb t c₅) (leb c₁ n && leb c₂ n && leb c₃ t && leb c₄ t && leb c₅ t)
+    go₅ h = e₅ ∙ lengths-more (leb n c₁ && leb n c₂ && leb t c₃ && leb t c₄) (leb c₁ n && leb c₂ n && leb c₃ t && leb c₄ t) k₄ t c₅ h
+
+    go : k₅ ≡ byLength (leb n c₁ && leb n c₂ && leb t c₃ && leb t c₄ && leb t c₅) (leb c₁ n && leb c₂ n && leb c₃ t && leb c₄ t && leb c₅ t) → k ≡ lengthsFault n t c₁ c₂ c₃ c₄ c₅ c₆
+    go h = e₆ ∙ lengths-more (leb n c₁ && leb n c₂ && leb t c₃ && leb t c₄ && leb t c₅) (leb c₁ n && leb c₂ n && leb c₃ t && leb c₄ t && leb c₅ t) k₅ (t * n) c₆ h
+
+-- the tests before the records, as the code makes them
+module _ (n : ℕ) (counts : List ℕ) (starts : List ℤ) (origins numbers levels stamps : ℕ) where
+  abbrev whole : ℕ
+  whole = wholeFault n counts starts origins numbers levels stamps
+
+  abbrev lengths : ℕ → ℕ
+  lengths t = lengthsFault n t (length counts) (length starts) origins numbers levels stamps
+
+  pub whole-stations : (1 ≤ n → n ≤ 8 → ⊥) → 2 ≡ whole
+  unfolding wholeFault
+  whole-stations h = rw (refuted (leb 1 n && leb n 8) (λ t. let (a, b) = and-true (leb 1 n) (leb n 8) t in h (leb-true 1 n a) (leb-true n 8 b))) refl
+
+  module _ (low : 1 ≤ n) (high : n ≤ 8) (k t : ℕ) (t-is : t ≡ sumTo n (at counts)) (k-is : k ≡ lengths t) where
+    in-order : (leb 1 n && leb n 8) ≡ true
+    in-order = simp (le-leb 1 n low, le-leb n 8 high)
+
+    k-all : lengths (sumTo n (at counts)) ≡ k
+    k-all = rw t-is at (sym k-is)
+
+    pub whole-lengths : (k ≡ 0 → ⊥) → k ≡ whole
+    unfolding wholeFault
+    whole-lengths h = rw (in-order, k-all, ne-eqb k 0 h) refl
+
+    module _ (fine : k ≡ 0) (x : Bool) (x-is : x ≡ every n (λ p. isLevel (getD starts p (pos 0)))) where
+      pub whole-level : x ≡ false → 14 ≡ whole
+      unfolding wholeFault
+      whole-level h = rw (in-order, k-all, eq-eqb k 0 fine, ← x-is, h) refl
+
+      pub whole-none : x ≡ true → 0 ≡ whole
+      unfolding wholeFault
+      whole-none h = rw (in-order, k-all, eq-eqb k 0 fine, ← x-is, h) refl
 
 -- where the level's test stands among the others
 pub level-after : (k bits : ℕ) → (k ≡ 5) ⊎ (k ≡ 6) → k ≡ levelFault k bits

@@ -1,12 +1,14 @@
 -- The writer's checks, as the code works them out of flat tables. Nothing here has to be believed: `CheckedGiven` and `GivenRight` prove that they are the
--- tests in the written order. In order: a refusal as one number; the lists' lengths; a level's bits; the fault of a record; all records; the table of stamps.
-use mathlib.Core.Bool.{_||_, cond}
+-- tests in the written order. In order: a refusal as one number; the lists' lengths and the
+-- tests before the records; a level's bits; the fault of a record; all records; the table of stamps.
+use mathlib.Core.Bool.{_&&_, _||_, cond}
 use mathlib.Core.List.{List}
 use Prim.Native.Nat.{ℕ, _+_, _*_, _/_, _%_}
 use lib.Dec.{leb, ltb, eqb}
 use lib.IntN.{ℤ, pos}
-use lib.ListN.{getD}
+use lib.ListN.{length, getD}
 use Rattle.levels.specs.Level.{isLevel, bitsOf}
+use Rattle.cuts.specs.Below.{every, sumTo}
 use Rattle.cuts.specs.Cut.{at}
 use Rattle.recording.specs.Recording.{messages}
 use Rattle.recording.specs.Check.{scanRecords}
@@ -29,6 +31,20 @@ answerOf v = cond (eqb v 0) Checked.Accepted (Checked.Refused (refusalOf v))
 -- the fault k of some lists, and then of one more: 1 if any is shorter than needed, else 3 if any is longer
 unfoldable pub lengthFault : ℕ → ℕ → ℕ → ℕ
 lengthFault k needs has = cond (leb needs has) (cond (eqb k 0) (cond (leb has needs) 0 3) k) 1
+
+-- the fault of all six lists, of n stations and t records
+unfoldable pub lengthsFault : ℕ → ℕ → ℕ → ℕ → ℕ → ℕ → ℕ → ℕ → ℕ
+lengthsFault n t counts starts origins numbers levels stamps =
+    cond
+    (leb n counts && leb n starts && leb t origins && leb t numbers && leb t levels && leb (t * n) stamps)
+    (cond (leb counts n && leb starts n && leb origins t && leb numbers t && leb levels t && leb stamps (t * n)) 0 3)
+    1
+
+-- the first test before the records that fails, by the lengths of the lists of records
+unfoldable pub wholeFault : ℕ → List ℕ → List ℤ → ℕ → ℕ → ℕ → ℕ → ℕ
+wholeFault n counts starts origins numbers levels stamps =
+    let k = lengthsFault n (sumTo n (at counts)) (length counts) (length starts) origins numbers levels stamps in
+    cond (leb 1 n && leb n 8) (cond (eqb k 0) (cond (every n (λ p. isLevel (getD starts p (pos 0)))) 0 14) k) 2
 
 -- a level's 12 bits, 4,096 for a number that is none
 unfoldable pub levelBits : ℤ → ℕ

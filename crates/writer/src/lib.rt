@@ -10,7 +10,7 @@ ghost use Rattle.cuts.specs.Below.{every, sumTo, tab};
 ghost use Rattle.cuts.specs.Cut.{at};
 ghost use Rattle.recording.specs.Form.{stationBit, recordBit, bytesFor, lead8, width8};
 ghost use Rattle.writer.specs.Write.{checkedGiven, Wrote};
-ghost use Rattle.writer.specs.Tables.{codeOf, refusalOf, answerOf, lengthFault, levelBits, levelFault, givenFault, scannedGiven, givenCell};
+ghost use Rattle.writer.specs.Tables.{codeOf, refusalOf, answerOf, lengthFault, lengthsFault, wholeFault, levelBits, levelFault, givenFault, scannedGiven, givenCell};
 ghost use Rattle.writer.specs.Pack.{turns, putEnds, putCount, putPair, putRecord, stationTurn, recordTurn};
 use levels::Fitted;
 use recording::Refusal;
@@ -39,8 +39,9 @@ pub fn write(
 ) -> Written
     ensures { λ r. ⌜ Wrote lead8 width8 (record { n = n; counts = now (counts .entry); starts = now (starts .entry); origins = now (origins .entry); numbers = now (numbers .entry); levels = now (levels .entry); stamps = now (stamps .entry) }) (now (room .entry)) (now (room .exit)) r ⌝ }
 {
+    let stations = n as usize;
     let v = fault(
-        n as usize,
+        stations,
         counts,
         starts,
         origins,
@@ -52,9 +53,18 @@ pub fn write(
     if v != 0 {
         return refused(v);
     }
-    put_stations(room, LEAD, WIDTH, n as usize, origins.len(), counts, starts);
-    put_records(room, LEAD, WIDTH, n as usize, origins, numbers, levels, stamps);
-    Written::Done(bytes_for(record_bit(LEAD, WIDTH, n as usize, origins.len())))
+    let bytes = put_stations(room, LEAD, WIDTH, stations, origins.len(), counts, starts);
+    put_records(
+        room,
+        LEAD,
+        WIDTH,
+        stations,
+        origins,
+        numbers,
+        levels,
+        stamps,
+    );
+    Written::Done(bytes)
 }
 
 // The refusal that a number stands for.
@@ -81,6 +91,40 @@ fn fault(
 ) -> usize
     ensures { λ r. ⌜ answerOf r ≡ checkedGiven lead8 width8 (record { n = n; counts = now (counts .entry); starts = now (starts .entry); origins = now (origins .entry); numbers = now (numbers .entry); levels = now (levels .entry); stamps = now (stamps .entry) }) room ⌝ }
 {
+    let k = whole_fault(
+        n,
+        counts,
+        starts,
+        origins.len(),
+        numbers.len(),
+        levels.len(),
+        stamps.len(),
+    );
+    if k != 0 {
+        return k;
+    }
+    let v = scan_given(n, counts, origins, numbers, levels, stamps);
+    if v != 0 {
+        return v;
+    }
+    if room < bytes_for(record_bit(LEAD, WIDTH, n, origins.len())) {
+        return 13;
+    }
+    0
+}
+
+// The first test before the records that fails, by the lengths of the lists of records.
+fn whole_fault(
+    n: usize,
+    counts: &[u8],
+    starts: &[i16],
+    origins: usize,
+    numbers: usize,
+    levels: usize,
+    stamps: usize,
+) -> usize
+    ensures { λ r. ⌜ r ≡ wholeFault n (now (counts .entry)) (now (starts .entry)) origins numbers levels stamps ⌝ }
+{
     if n < 1 {
         return 2;
     }
@@ -88,24 +132,42 @@ fn fault(
         return 2;
     }
     let firsts = firsts_of(counts);
-    let t = firsts[n];
-    let stations = with_length(with_length(0, n, counts.len()), n, starts.len());
-    let records = with_length(with_length(stations, t, origins.len()), t, numbers.len());
-    let k = with_length(with_length(records, t, levels.len()), t * n, stamps.len());
+    let k = lengths_fault(
+        n,
+        firsts[n],
+        counts.len(),
+        starts.len(),
+        origins,
+        numbers,
+        levels,
+        stamps,
+    );
     if k != 0 {
         return k;
     }
     if !are_levels(n, starts) {
         return 14;
     }
-    let v = scan_given(n, counts, origins, numbers, levels, stamps);
-    if v != 0 {
-        return v;
-    }
-    if room < bytes_for(record_bit(LEAD, WIDTH, n, t)) {
-        return 13;
-    }
     0
+}
+
+// 1 if a list is shorter than n stations and t records need, else 3 if one is longer, else 0.
+fn lengths_fault(
+    n: usize,
+    t: usize,
+    counts: usize,
+    starts: usize,
+    origins: usize,
+    numbers: usize,
+    levels: usize,
+    stamps: usize,
+) -> usize
+    requires { ⌜ (n ≤ 8) × (t ≤ 2040) ⌝ }
+    ensures { λ r. ⌜ r ≡ lengthsFault n t counts starts origins numbers levels stamps ⌝ }
+{
+    let stations = with_length(with_length(0, n, counts), n, starts);
+    let records = with_length(with_length(stations, t, origins), t, numbers);
+    with_length(with_length(records, t, levels), t * n, stamps)
 }
 
 // The fault of the lists so far, and of one more, which needs to have so many and has so many: 1 if any is shorter, else 3 if any is longer.
@@ -282,7 +344,7 @@ fn of_record(k: u8, p: usize, e: usize) -> usize
     8192 * (p + 1) + 16 * (e + 1) + k as usize
 }
 
-// n, the parts of the n stations, and zero bits behind t records.
+// n, the parts of the n stations, and zero bits behind t records; the bytes that all of it needs.
 fn put_stations(
     room: &mut [u8],
     lead: usize,
@@ -291,11 +353,11 @@ fn put_stations(
     t: usize,
     counts: &[u8],
     starts: &[i16],
-)
+) -> usize
     requires { ⌜ (4 ≤ lead) × (lead ≤ 8) × (w ≤ 9) × (n ≤ 8) × (t ≤ 4096) ⌝ }
-    ensures { λ _. ⌜ now (room .exit) ≡ turns (stationTurn lead w (now (counts .entry)) (now (starts .entry))) (putEnds lead w n t (now (room .entry))) n ⌝ }
+    ensures { λ r. ⌜ (now (room .exit) ≡ turns (stationTurn lead w (now (counts .entry)) (now (starts .entry))) (putEnds lead w n t (now (room .entry))) n) × (r ≡ bytesFor (recordBit lead w n t)) ⌝ }
 {
-    put_ends(room, lead, w, n, t);
+    let bytes = put_ends(room, lead, w, n, t);
     let mut p: usize = 0;
     while p < n {
         let i = station_bit(lead, w, p);
@@ -304,16 +366,19 @@ fn put_stations(
         put_pair(room, w, i, m, bits);
         p += 1;
     }
+    bytes
 }
 
-// n in front, and zero bits from the end of t records on, up to a whole byte.
-fn put_ends(room: &mut [u8], lead: usize, w: usize, n: usize, t: usize)
+// n in front, and zero bits from the end of t records on, up to a whole byte; the bytes up to there.
+fn put_ends(room: &mut [u8], lead: usize, w: usize, n: usize, t: usize) -> usize
     requires { ⌜ (4 ≤ lead) × (lead ≤ 8) × (w ≤ 9) × (n ≤ 8) × (t ≤ 4096) ⌝ }
-    ensures { λ _. ⌜ now (room .exit) ≡ putEnds lead w n t (now (room .entry)) ⌝ }
+    ensures { λ r. ⌜ (now (room .exit) ≡ putEnds lead w n t (now (room .entry))) × (r ≡ bytesFor (recordBit lead w n t)) ⌝ }
 {
     put::put(room, lead - 4, 4, n as u16);
     let i = record_bit(lead, w, n, t);
-    put::put(room, i, 8 * bytes_for(i) - i, 0);
+    let bytes = bytes_for(i);
+    put::put(room, i, 8 * bytes - i, 0);
+    bytes
 }
 
 // A count and a level's bits, from the bit i on: all of a station's part, the middle of a record.

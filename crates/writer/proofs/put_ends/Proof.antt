@@ -1,4 +1,5 @@
 -- n is put in front, and behind the last record as many zero bits as its byte lacks.
+use mathlib.Core.Path.{ap, _∙_}
 use native.Mathlib.Omega.{arith}
 use Rattle.recording.specs.Form.{bytesFor}
 use Rattle.writer.proofs.PackLaws.{ends-are}
@@ -35,9 +36,12 @@ same-length c = omega arith
 
 returns : tie.Need-returns
 returns c =
-    let b = c .before .before .before in
-    let i = b .before .before in
-    ends-are _ _ _ _ _ _ _ _ _ (i .record-bit .ensures .0) (b .bytes-for .ensures .0) (i .before .before .before .put .ensures .bytes) (c .before .before .put2 .ensures .bytes)
+    let p = c .before .before in
+    let b = p .before .before in
+    let i = b .before in (
+      ends-are _ _ _ _ _ _ _ _ _ (i .record-bit .ensures .0) (b .bytes-for .ensures .0) (i .before .before .before .put .ensures .bytes) (p .put2 .ensures .bytes),
+      b .bytes-for .ensures .0 ∙ ap bytesFor (i .record-bit .ensures .0),
+    )
 
 pub put-ends-spec : {M : Type 1} → statement M
 put-ends-spec =

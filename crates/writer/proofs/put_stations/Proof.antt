@@ -10,10 +10,10 @@ use Rattle.writer.proofs.put_stations.Statement.{statement}
 use Rattle.writer.proofs.put_stations.Tie as tie
 
 abbrev Inv-loop : tie.InvT-loop
-Inv-loop room₀ lead w n t counts starts p₀ room p = (p ≤ n) × (length room ≡ length room₀) × (room ≡ turns (stationTurn lead w counts starts) room₀ p)
+Inv-loop room₀ lead w n t counts starts bytes p₀ room p = (p ≤ n) × (length room ≡ length room₀) × (room ≡ turns (stationTurn lead w counts starts) room₀ p)
 
 abbrev μ-loop : tie.MeasureT-loop
-μ-loop room₀ lead w n t counts starts p₀ room p = n - p
+μ-loop room₀ lead w n t counts starts bytes p₀ room p = n - p
 
 put-ends-requires : tie.Need-put-ends-requires Inv-loop μ-loop
 put-ends-requires c κs = omega arith
@@ -58,7 +58,9 @@ same-length c = c .before .loop .inv .1 ∙ c .before .before .before .before .p
 
 returns : tie.Need-returns Inv-loop μ-loop
 returns c =
-    rw (le-antisymm (c .before .loop .inv .0) (c .loop-test .left), c .before .before .before .before .put-ends .ensures) at (c .before .loop .inv .2)
+    let L = c .before in
+    let e = L .before .before .before .put-ends .ensures in
+    (rw (le-antisymm (L .loop .inv .0) (c .loop-test .left), e .0) at (L .loop .inv .2), e .1)
 
 pub put-stations-spec : {M : Type 1} → statement M
 put-stations-spec =

@@ -1,11 +1,12 @@
 -- What the checks refuse changes nothing; what they accept is packed into the front of the room.
+use mathlib.Core.Path.{refl}
 use Prim.Native.Nat.{ℕ, _≤_, _<_}
 use native.Mathlib.Omega.{arith}
 use lib.ListN.{length, getD}
 use Rattle.cuts.specs.Cut.{at}
 use Rattle.writer.specs.Write.{Given}
 use Rattle.writer.proofs.PackLaws.{pack-is}
-use Rattle.writer.proofs.CheckedGiven.{Whole, needed-is, none-whole, none-few}
+use Rattle.writer.proofs.CheckedGiven.{Whole, few-records, needed-is, none-whole}
 use Rattle.writer.proofs.WriteRight.{wrote-done, wrote-refused}
 use Rattle.writer.proofs.write.Statement.{statement}
 use Rattle.writer.proofs.write.Tie as tie
@@ -33,7 +34,7 @@ whole : (c : tie.Else1) → Whole (given (c .before))
 whole c = none-whole _ _ _ _ _ (c .before .fault .ensures) (c .if1 .left)
 
 few : (c : tie.Else1) → length (given (c .before) .origins) ≤ 2040
-few c = none-few _ _ _ _ _ (c .before .fault .ensures) (c .if1 .left) (bytes (c .before))
+few c = few-records _ (whole c) (bytes (c .before))
 
 fault-requires : tie.Need-fault-requires
 fault-requires c κs = tt
@@ -50,26 +51,19 @@ put-stations-requires c κs = let z = c .before in (omega arith, omega arith, om
 put-records-requires : tie.Need-put-records-requires
 put-records-requires c κs = let z = c .before .before .before .before .before in (omega arith, omega arith, whole z .most, omega (arith, few z))
 
-record-bit-requires : tie.Need-record-bit-requires
-record-bit-requires c κs = let z = c .before .before .before .before .before .before .before .before in (omega arith, omega arith, whole z .most, omega (arith, few z))
-
-bytes-for-requires : tie.Need-bytes-for-requires
-bytes-for-requires c κs = omega arith
-
 same-length : tie.Need-same-length
 same-length c = omega arith
 
 returns-2 : tie.Need-returns-2
 returns-2 c =
-    let i = c .before in
-    let p = i .before .before .before in
+    let p = c .before .before in
     let s = p .before .before .before .before in
     let z = s .before .before in
     let f = z .before in
     let room-bytes : (j : ℕ) → getD (start f .args .room .now) j 0 < 256 = λ j. omega (arith, f .before .slice-known .given j) in
     wrote-done _ _ (given f) _ _ _ _ (omega arith) (omega arith) (omega arith) (bytes f) room-bytes (f .fault .ensures) (z .if1 .left)
-    (pack-is _ _ (given f) _ _ _ _ (whole z .records) (s .put-stations .ensures) (p .put-records .ensures))
-    (needed-is _ _ (given f) _ _ _ (whole z .records) (i .record-bit .ensures .0) (c .bytes-for .ensures .0))
+    (pack-is _ _ (given f) _ _ _ _ (whole z .records) (s .put-stations .ensures .0) (p .put-records .ensures))
+    (needed-is _ _ (given f) _ _ _ (whole z .records) refl (s .put-stations .ensures .1))
 
 pub write-spec : {M : Type 1} → statement M
 write-spec =
@@ -80,7 +74,5 @@ write-spec =
     returns
     put-stations-requires
     put-records-requires
-    record-bit-requires
-    bytes-for-requires
     same-length
     returns-2)
