@@ -9,8 +9,9 @@ ghost use Rattle.levels.specs.Level.{isLevel};
 ghost use Rattle.cuts.specs.Below.{every, sumTo, tab};
 ghost use Rattle.cuts.specs.Cut.{at};
 ghost use Rattle.recording.specs.Form.{stationBit, recordBit, bytesFor, lead8, width8};
-ghost use Rattle.writer.specs.Write.{checkedGiven, Wrote};
-ghost use Rattle.writer.specs.Tables.{codeOf, refusalOf, answerOf, lengthFault, lengthsFault, wholeFault, levelBits, levelFault, givenFault, scannedGiven, givenCell};
+ghost use Rattle.recording.specs.Check.{faultOf};
+ghost use Rattle.writer.specs.Write.{givenTests, checkedGiven, Wrote};
+ghost use Rattle.writer.specs.Tables.{codeOf, refusalOf, answerOf, lengthFault, lengthsFault, levelBits, levelFault, givenFault, scannedGiven, givenCell};
 ghost use Rattle.writer.specs.Pack.{turns, putEnds, putCount, putPair, putRecord, stationTurn, recordTurn};
 use levels::Fitted;
 use recording::Refusal;
@@ -91,15 +92,7 @@ fn fault(
 ) -> usize
     ensures { λ r. ⌜ answerOf r ≡ checkedGiven lead8 width8 (record { n = n; counts = now (counts .entry); starts = now (starts .entry); origins = now (origins .entry); numbers = now (numbers .entry); levels = now (levels .entry); stamps = now (stamps .entry) }) room ⌝ }
 {
-    let k = whole_fault(
-        n,
-        counts,
-        starts,
-        origins.len(),
-        numbers.len(),
-        levels.len(),
-        stamps.len(),
-    );
+    let k = whole_fault(n, counts, starts, origins, numbers, levels, stamps);
     if k != 0 {
         return k;
     }
@@ -113,17 +106,17 @@ fn fault(
     0
 }
 
-// The first test before the records that fails, by the lengths of the lists of records.
+// The first test before the records that fails.
 fn whole_fault(
     n: usize,
     counts: &[u8],
     starts: &[i16],
-    origins: usize,
-    numbers: usize,
-    levels: usize,
-    stamps: usize,
+    origins: &[u8],
+    numbers: &[u16],
+    levels: &[i16],
+    stamps: &[u16],
 ) -> usize
-    ensures { λ r. ⌜ r ≡ wholeFault n (now (counts .entry)) (now (starts .entry)) origins numbers levels stamps ⌝ }
+    ensures { λ r. ⌜ r ≡ faultOf (givenTests (record { n = n; counts = now (counts .entry); starts = now (starts .entry); origins = now (origins .entry); numbers = now (numbers .entry); levels = now (levels .entry); stamps = now (stamps .entry) })) ⌝ }
 {
     if n < 1 {
         return 2;
@@ -137,10 +130,10 @@ fn whole_fault(
         firsts[n],
         counts.len(),
         starts.len(),
-        origins,
-        numbers,
-        levels,
-        stamps,
+        origins.len(),
+        numbers.len(),
+        levels.len(),
+        stamps.len(),
     );
     if k != 0 {
         return k;

@@ -6,7 +6,6 @@ use lib.ListN.{length}
 use Rattle.cuts.specs.Cut.{at}
 use Rattle.recording.specs.Check.{faultOf}
 use Rattle.writer.specs.Write.{Given, firstGiven, givenTests}
-use Rattle.writer.proofs.GivenLaws.{whole-is}
 use Rattle.writer.proofs.CheckedGiven.{Whole, whole-says, few-records, needed-is, answer-before, answer-scanned, answer-room, answer-fine}
 use Rattle.writer.proofs.fault.Statement.{statement}
 use Rattle.writer.proofs.fault.Tie as tie
@@ -29,15 +28,12 @@ given c = let a = start c .args in record {
 whole-fault-requires : tie.Need-whole-fault-requires
 whole-fault-requires c κs = tt
 
-first : (c : tie.After-whole-fault) → c .whole-fault .result ≡ faultOf (givenTests (given c))
-first c = c .whole-fault .ensures ∙ whole-is (given c)
-
 returns : tie.Need-returns
-returns c = answer-before _ _ (given (c .before)) _ _ (first (c .before)) (c .if1 .taken)
+returns c = answer-before _ _ (given (c .before)) _ _ (c .before .whole-fault .ensures) (c .if1 .taken)
 
 -- the tests before the records have passed
 passed : (c : tie.Else1) → faultOf (givenTests (given (c .before))) ≡ 0
-passed c = sym (first (c .before)) ∙ c .if1 .left
+passed c = sym (c .before .whole-fault .ensures) ∙ c .if1 .left
 
 whole : (c : tie.Else1) → Whole (given (c .before))
 whole c = whole-says (given (c .before)) (passed c)
