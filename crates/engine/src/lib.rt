@@ -2,6 +2,7 @@
 ghost use Rattle.engine.specs.Job.{Judged};
 use cut::Cut;
 use recording::Checked;
+use recording::Decoded;
 
 mod needs;
 mod rooms;
@@ -25,5 +26,12 @@ pub fn judge(job: &[u8], marks: &mut [u8], path: &mut [u8]) -> Reply
     if read.refused != 0 {
         return verdict::refused_wholly(read.refused);
     }
-    verdict::judge_recording(read.condition, &job[38..], marks, path)
+    let s = &job[38..];
+    let mut stamps = [0u16; 32704];
+    let mut levels = [0u16; 4088];
+    let d = recording::decode(s, &mut stamps, &mut levels);
+    if let Decoded::Refused(x) = d {
+        return verdict::refused(x);
+    }
+    verdict::verdicts(read.condition, s, &stamps, &levels, marks, path)
 }

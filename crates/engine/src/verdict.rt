@@ -1,4 +1,4 @@
-// The reply to a recording and a condition: the refusals from the recording's on, or the verdicts.
+// The reply to an accepted recording and a condition: the refusals from the condition's on, or the verdicts.
 ghost use mathlib.Core.Path.{_≡_};
 ghost use Rattle.engine.specs.Job.{refusedBy, wholly};
 ghost use Rattle.condition.specs.Weigh.{limitsOf};
@@ -13,23 +13,9 @@ use condition::Limits;
 use cut::Cut;
 use marks::Settled;
 use recording::Checked;
-use recording::Decoded;
 use recording::Refusal;
 
-// The reply to a condition and the bytes of a recording, marks and path filled; or the refusal, and nothing changed.
-pub fn judge_recording(c: Condition, s: &[u8], marks: &mut [u8], path: &mut [u8]) -> Reply
-    ensures { λ r. ⌜ Answered c (now (s .entry)) (now (marks .entry)) (now (path .entry)) r (now (marks .exit)) (now (path .exit)) ⌝ }
-{
-    let mut stamps = [0u16; 32704];
-    let mut levels = [0u16; 4088];
-    let d = recording::decode(s, &mut stamps, &mut levels);
-    if let Decoded::Refused(x) = d {
-        return refused(x);
-    }
-    verdicts(c, s, &stamps, &levels, marks, path)
-}
-
-// The same of an accepted recording, whose tables are handed in.
+// The reply to a condition and an accepted recording, whose tables are handed in, marks and path filled; or the refusal, and nothing changed.
 pub fn verdicts(
     c: Condition,
     s: &[u8],
