@@ -3,6 +3,7 @@ ghost use Rattle.engine.specs.Job.{Judged};
 use cut::Cut;
 use recording::Checked;
 use recording::Decoded;
+use recording::Refusal;
 
 mod needs;
 mod rooms;
@@ -24,7 +25,11 @@ pub fn judge(job: &[u8], marks: &mut [u8], path: &mut [u8]) -> Reply
 {
     let read = condition::read(job);
     if read.refused != 0 {
-        return verdict::refused_wholly(read.refused);
+        return verdict::refused(Refusal {
+            number: read.refused,
+            station: 0,
+            event: 0,
+        });
     }
     let s = &job[38..];
     let mut stamps = [0u16; 32704];

@@ -19,7 +19,7 @@ pub fn bases(full: Cut) -> [usize; 8]
     let mut p: usize = 0;
     while p < 8 {
         b[p] = rows;
-        rows += wide(counts[p]) + 1;
+        rows += counts[p] as usize + 1;
         p += 1;
     }
     b
@@ -67,11 +67,4 @@ pub fn number(table: &[u16], i: usize) -> u16
         return table[i];
     }
     0
-}
-
-// A count as a usize, with its bound.
-pub fn wide(x: u16) -> usize
-    ensures { λ r. ⌜ (r ≡ x) × (r < 65536) ⌝ }
-{
-    x as usize
 }

@@ -28,7 +28,7 @@ pub fn lay(
     let counts = full.counts;
     let mut p: usize = 0;
     while p < n {
-        let m = needs::wide(counts[p]);
+        let m = counts[p] as usize;
         let b = bases[p];
         let first = b - p;
         needs::lay_station_needs(stamps, p, first, m, 8 * b, needed);

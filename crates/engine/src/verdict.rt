@@ -1,6 +1,6 @@
 // The reply to an accepted recording and a condition: the refusals from the condition's on, or the verdicts.
 ghost use mathlib.Core.Path.{_≡_};
-ghost use Rattle.engine.specs.Job.{refusedBy, wholly};
+ghost use Rattle.engine.specs.Job.{refusedBy};
 ghost use Rattle.condition.specs.Weigh.{limitsOf};
 ghost use Rattle.engine.specs.Prepare.{Shifts};
 ghost use Rattle.engine.specs.Computed.{Laid, Answered, acceptedBy};
@@ -30,7 +30,11 @@ pub fn verdicts(
     let full = recording::full_cut(s);
     let fault = rooms::fault(c, full, marks.len(), path.len());
     if fault != 0 {
-        return refused_wholly(fault);
+        return refused(Refusal {
+            number: fault,
+            station: 0,
+            event: 0,
+        });
     }
     let bases = needs::bases(full);
     let mut table = [0u16; 32768];
@@ -96,15 +100,4 @@ pub fn refused(x: Refusal) -> Reply
         },
         def: false,
     }
-}
-
-// A refusal that is about no record, and nothing beside it.
-pub fn refused_wholly(number: u8) -> Reply
-    ensures { λ r. ⌜ r ≡ refusedBy (wholly number) ⌝ }
-{
-    refused(Refusal {
-        number: number,
-        station: 0,
-        event: 0,
-    })
 }

@@ -8,13 +8,13 @@ use Rattle.engine.proofs.judge.Tie as tie
 read-requires : tie.Need-read-requires
 read-requires c κs = tt
 
-refused-wholly-requires : tie.Need-refused-wholly-requires
-refused-wholly-requires c κs = tt
+refused-requires : tie.Need-refused-requires
+refused-requires c κs = tt
 
 returns : tie.Need-returns
 returns c =
     let t = c .before in
-    refused-condition _ _ _ _ _ (t .before .before .read .ensures) (t .if1 .taken) (c .refused-wholly .ensures)
+    refused-condition _ _ _ _ _ (t .before .before .read .ensures) (t .if1 .taken) (c .refused .ensures)
 
 sub-s : tie.Need-sub-s
 sub-s c = job-long _ _ (c .before .before .read .ensures) (c .if1 .left)
@@ -37,15 +37,15 @@ decode-requires c κs = tt
 enum-known-d : tie.Need-enum-known-d
 enum-known-d c = omega arith
 
-refused-requires : tie.Need-refused-requires
-refused-requires c κs = tt
+refused-requires-2 : tie.Need-refused-requires-2
+refused-requires-2 c κs = tt
 
 returns-2 : tie.Need-returns-2
 returns-2 c =
     let d = c .before .before .before .before .before .before in
     let e = d .before .before .before .before in
     judged _ _ (e .before .before .read .ensures) (e .if1 .left) _ _ _ _ _ _ (part-is _)
-    (refused-recording _ _ _ _ _ _ _ _ _ (d .decode .ensures) _ _ (c .before .before .d .given .1) (c .refused .ensures))
+    (refused-recording _ _ _ _ _ _ _ _ _ (d .decode .ensures) _ _ (c .before .before .d .given .1) (c .refused2 .ensures))
 
 slice-aggregate-verdicts : tie.Need-slice-aggregate-verdicts
 slice-aggregate-verdicts c = omega arith
@@ -75,7 +75,7 @@ judge-spec =
     tie.close
     (tie.spec
     read-requires
-    refused-wholly-requires
+    refused-requires
     returns
     sub-s
     part-s-start
@@ -84,7 +84,7 @@ judge-spec =
     slice-aggregate-decode-2
     decode-requires
     enum-known-d
-    refused-requires
+    refused-requires-2
     returns-2
     slice-aggregate-verdicts
     slice-aggregate-verdicts-2

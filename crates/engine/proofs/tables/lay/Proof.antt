@@ -27,12 +27,9 @@ start c = c .before .before .before .before .before .before .before .before
 here : (c : tie.In-loop Inv-loop μ-loop) → Begins (start c .args .full .counts) (start c .args .t3) (c .before .loop .p)
 here c = let a = start c in begins _ (a .pre .0) _ (a .pre .1) _ (c .loop-test .taken)
 
--- that it is one of eight, and has few events
+-- that it is one of eight
 place : (c : tie.In-loop Inv-loop μ-loop) → c .before .loop .p < 8
 place c = omega (arith, c .loop-test .taken, start c .pre .0 .n-most)
-
-events : (c : tie.After-wide Inv-loop μ-loop) → c .wide .result ≤ 511
-events c = rw (c .wide .ensures .0) (here (c .before) .few)
 
 cast-n : tie.Need-cast-n Inv-loop μ-loop
 cast-n c = omega arith
@@ -40,44 +37,44 @@ cast-n c = omega arith
 loop-holds : tie.Need-loop-holds Inv-loop μ-loop
 loop-holds c = let pre = c .before .before .before .before .before .before .pre in (omega arith, pre .2, pre .3, needsTo-none _ _ _, weightsTo-none _ _ _ _ _)
 
-mul-wide : tie.Need-mul-wide Inv-loop μ-loop
-mul-wide c = omega (arith, place c)
+mul-m : tie.Need-mul-m Inv-loop μ-loop
+mul-m c = omega (arith, place c)
 
-array-read-wide : tie.Need-array-read-wide Inv-loop μ-loop
-array-read-wide c = place c
+array-read-m : tie.Need-array-read-m Inv-loop μ-loop
+array-read-m c = place c
 
-wide-requires : tie.Need-wide-requires Inv-loop μ-loop
-wide-requires c κs = tt
+cast-m : tie.Need-cast-m Inv-loop μ-loop
+cast-m c = omega (arith, here c .few)
 
 mul-b : tie.Need-mul-b Inv-loop μ-loop
-mul-b c = omega (arith, place (c .before))
+mul-b c = omega (arith, place c)
 
 array-read-b : tie.Need-array-read-b Inv-loop μ-loop
-array-read-b c = place (c .before)
+array-read-b c = place c
 
 sub-first : tie.Need-sub-first Inv-loop μ-loop
-sub-first c = here (c .before) .low
+sub-first c = here c .low
 
 mul-lay-station-needs : tie.Need-mul-lay-station-needs Inv-loop μ-loop
-mul-lay-station-needs c = omega (arith, here (c .before) .high)
+mul-lay-station-needs c = omega (arith, here c .high)
 
 lay-station-needs-requires : tie.Need-lay-station-needs-requires Inv-loop μ-loop
 lay-station-needs-requires c κs =
-    let w = c .before in
-    let h = here (w .before) .high in
-    (omega (arith, h), events w, omega (arith, h, w .wide .ensures .0, w .before .before .loop .inv .1), w .before .before .loop .inv .1)
+    let i = c .before in
+    let h = here i in
+    (omega (arith, h .high), h .few, omega (arith, h .high, i .before .loop .inv .1), i .before .loop .inv .1)
 
 mul-lay-station-weights : tie.Need-mul-lay-station-weights Inv-loop μ-loop
-mul-lay-station-weights c = omega (arith, place (c .before .before .before .before .before))
+mul-lay-station-weights c = omega (arith, place (c .before .before .before .before))
 
 array-read-lay-station-weights : tie.Need-array-read-lay-station-weights Inv-loop μ-loop
-array-read-lay-station-weights c = place (c .before .before .before .before .before)
+array-read-lay-station-weights c = place (c .before .before .before .before)
 
 lay-station-weights-requires : tie.Need-lay-station-weights-requires Inv-loop μ-loop
 lay-station-weights-requires c κs =
-    let w = c .before .before .before .before .before in
-    let h = here (w .before) .high in
-    (omega (arith, h), events w, omega (arith, h, w .wide .ensures .0, w .before .before .loop .inv .2), w .before .before .loop .inv .2)
+    let i = c .before .before .before .before .before in
+    let h = here i in
+    (omega (arith, h .high), h .few, omega (arith, h .high, i .before .loop .inv .2), i .before .loop .inv .2)
 
 add-p : tie.Need-add-p Inv-loop μ-loop
 add-p c = omega arith
@@ -89,16 +86,15 @@ loop-again : tie.Need-loop-again Inv-loop μ-loop
 loop-again c =
     let W = c .before .before in
     let N = W .before .before .before .before in
-    let w = N .before .before in
-    let i = w .before in
+    let i = N .before .before in
     let L = i .before .loop in
     let h = here i in
     let pre = start i .pre in (
       omega arith,
       N .lay-station-needs .kept .1 .1 .1 .1 .1 .0 ∙ L .inv .1,
       W .lay-station-weights .kept .1 .1 .1 .1 .1 .1 .1 .0 ∙ L .inv .2,
-      needsTo-more _ _ _ _ _ (L .p) _ _ _ (L .inv .3) (N .lay-station-needs .ensures) (h .first) (ap (λ (j : ℕ). 8 * j) (h .row)) (ap (λ (j : ℕ). 8 * (j + 1)) (w .wide .ensures .0)) (omega (arith, h .high, pre .2)),
-      weightsTo-more _ _ _ _ _ _ _ (L .p) _ _ _ _ (L .inv .4) (W .lay-station-weights .ensures) refl (h .first) (h .row ∙ omega arith) (rw (w .wide .ensures .0) (omega arith)) (omega (arith, h .high, pre .3)),
+      needsTo-more _ _ _ _ _ (L .p) _ _ _ (L .inv .3) (N .lay-station-needs .ensures) (h .first) (ap (λ (j : ℕ). 8 * j) (h .row)) refl (omega (arith, h .high, pre .2)),
+      weightsTo-more _ _ _ _ _ _ _ (L .p) _ _ _ _ (L .inv .4) (W .lay-station-weights .ensures) refl (h .first) (h .row ∙ omega arith) (omega arith) (omega (arith, h .high, pre .3)),
     )
 
 same-length : tie.Need-same-length Inv-loop μ-loop
@@ -121,9 +117,9 @@ lay-spec =
     μ-loop
     cast-n
     loop-holds
-    mul-wide
-    array-read-wide
-    wide-requires
+    mul-m
+    array-read-m
+    cast-m
     mul-b
     array-read-b
     sub-first

@@ -21,15 +21,15 @@ full-cut-requires c κs = tt
 fault-requires : tie.Need-fault-requires
 fault-requires c κs = tt
 
-refused-wholly-requires : tie.Need-refused-wholly-requires
-refused-wholly-requires c κs = tt
+refused-requires : tie.Need-refused-requires
+refused-requires c κs = tt
 
 returns : tie.Need-returns
 returns c =
     let t = c .before in
     let k = t .before in
     let f = k .before in
-    refused-room _ _ _ _ _ _ (start f .pre) _ (f .full-cut .ensures) _ (k .fault .ensures) _ (t .if1 .taken) (c .refused-wholly .ensures)
+    refused-room _ _ _ _ _ _ (start f .pre) _ (f .full-cut .ensures) _ (k .fault .ensures) _ (t .if1 .taken) (c .refused .ensures)
 
 bases-requires : tie.Need-bases-requires
 bases-requires c κs = short (c .before .before)
@@ -91,7 +91,7 @@ verdicts-spec =
     (tie.spec
     full-cut-requires
     fault-requires
-    refused-wholly-requires
+    refused-requires
     returns
     bases-requires
     starts-requires
