@@ -1,7 +1,7 @@
 // The table of what each station adds, after each of its events, to the sum that decides the condition.
 ghost use mathlib.Core.Path.{_≡_};
 ghost use mathlib.Core.List.{_++_};
-ghost use Prim.Native.Nat.{_+_, _*_, _≤_, _<_};
+ghost use Prim.Native.Nat.{_+_, _≤_, _<_};
 ghost use lib.ListN.{length, take, drop};
 ghost use Rattle.cuts.specs.Below.{tab};
 ghost use Rattle.engine.specs.Prepare.{stationWeight};

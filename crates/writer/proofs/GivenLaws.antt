@@ -1,6 +1,6 @@
 -- What was handed to the writer, read as a recording: what its events say is what the lists hold. In order: the code's tables; the recording's counts and
 -- events; the tests before the records. Assumes nothing.
-use mathlib.Core.Path.{_≡_, refl, sym, ap, _∙_}
+use mathlib.Core.Path.{_≡_, refl, ap, _∙_}
 use mathlib.Core.Bool.{Bool, true, false, _&&_, cond}
 use mathlib.Core.List.{List, [], _∷_}
 use Prim.Native.Nat.{ℕ, suc, _+_, _-_, _*_, _≤_, _<_}

@@ -14,7 +14,7 @@ use Rattle.levels.specs.Level.{isLevel}
 use Rattle.cuts.specs.Below.{sumTo, tab}
 use Rattle.cuts.specs.Cut.{at}
 use Rattle.cuts.proofs.BelowLaws.{length-tab, getD-tab}
-use Rattle.recording.specs.Recording.{Event, Recording, messages, stamps, levels}
+use Rattle.recording.specs.Recording.{Event, Recording, stamps, levels}
 use Rattle.recording.specs.Check.{test, faultOf, refusal, atRecord, scanTo, scanRecords}
 use Rattle.recording.specs.Fault.{faultAt}
 use Rattle.writer.specs.Write.{Given, firstGiven, recordingGiven, writerTests}

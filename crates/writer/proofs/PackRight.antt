@@ -19,7 +19,7 @@ use Rattle.cuts.proofs.BelowLaws.{sumTo-same, tab-same}
 use Rattle.recording.specs.Form.{bytesFor, stationBit, recordSize, recordBit, nAt, mAt, startAt, firstAt, originAt, numberAt, levelAt, countAt, eventOf, recordingOf, needed, padding}
 use Rattle.writer.specs.Write.{Given, firstGiven, given, recordingGiven, neededGiven, checkedGiven, Packs}
 use Rattle.writer.specs.Tables.{levelBits}
-use Rattle.writer.specs.Pack.{turns, putPadding, putPair, putRecord, stationTurn, recordTurn, putEnds, ended, stationed, packInto}
+use Rattle.writer.specs.Pack.{turns, putPair, putRecord, stationTurn, recordTurn, putEnds, ended, stationed, packInto}
 use Rattle.recording.specs.declared.Checked.{Checked}
 use Rattle.writer.proofs.CheckedGiven.{accepts}
 use Rattle.writer.proofs.FittingRight.{Fitting, accepts-fitting}

@@ -8,7 +8,6 @@ use Rattle.recording.specs.Form.{lead8, width8}
 use Rattle.writer.specs.Write.{Given, recordingGiven, neededGiven, checkedGiven, Wrote, refused, done}
 use Rattle.writer.specs.Tables.{answerOf, refusalOf}
 use Rattle.writer.specs.Pack.{packInto}
-use Rattle.recording.specs.declared.Checked.{Checked}
 use Rattle.writer.specs.declared.Written.{Written}
 use Rattle.recording.proofs.CheckLaws.{accepted-not}
 use Rattle.writer.proofs.CheckedGiven.{none-accepted}

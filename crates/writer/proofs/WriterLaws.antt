@@ -27,7 +27,6 @@ use Rattle.cuts.proofs.ReplyLaws.{refuted}
 use Rattle.recording.specs.Check.{refusal}
 use Rattle.faults.specs.Fault.{tableFault}
 use Rattle.writer.specs.Tables.{codeOf, refusalOf, answerOf, lengthFault, lengthsFault, wholeFault, levelBits, levelFault, givenFault, givenCell}
-use Rattle.recording.specs.declared.Refusal.{Refusal}
 use Rattle.recording.specs.declared.Checked.{Checked}
 
 -- what the reply to a number says of its bits

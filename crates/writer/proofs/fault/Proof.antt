@@ -1,8 +1,7 @@
 -- The tests before the records, then the records, then the room.
 use mathlib.Core.Path.{_≡_, sym, _∙_}
-use Prim.Native.Nat.{ℕ, _≤_, _<_}
+use Prim.Native.Nat.{ℕ, _<_}
 use native.Mathlib.Omega.{arith}
-use lib.ListN.{length}
 use Rattle.cuts.specs.Cut.{at}
 use Rattle.recording.specs.Check.{faultOf}
 use Rattle.writer.specs.Write.{Given, firstGiven, givenTests}
