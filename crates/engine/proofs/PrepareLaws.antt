@@ -14,7 +14,8 @@ use Rattle.cuts.specs.Cut.{at}
 use Rattle.cuts.proofs.BelowLaws.{last-or-below, sumTo-more, sumTo-scale, length-tab, getD-tab}
 use Rattle.cuts.proofs.TabLaws.{front-more, front-length}
 use Rattle.recording.proofs.SumLaws.{sumTo-part, sumTo-most}
-use Rattle.engine.specs.Prepare.{stationNeed, stationWeight, stretches, rowsTo, firstOf, needsTo, weightsTo}
+use Rattle.engine.specs.Prepare.{stationNeed, stationWeight, stretches, Short, rowsTo, firstOf, needsTo, weightsTo}
+use Rattle.cut.specs.declared.Cut.{Cut}
 use Rattle.condition.specs.Weigh.{weighOf}
 use Rattle.condition.specs.declared.Condition.{Condition}
 
@@ -111,6 +112,32 @@ firstOf-more m p = sumTo-more p _
 pub rowsTo-le : (m : List ℕ) → ((q : ℕ) → at m q ≤ 511) → (p : ℕ) → rowsTo m p ≤ 512 * p
 unfolding rowsTo
 rowsTo-le m s p = sumTo-most _ 512 p (λ q. omega (arith, s q))
+
+-- a station has a row more than records
+rows-first : (m : List ℕ) (p : ℕ) → rowsTo m p ≡ firstOf m p + p
+unfolding rowsTo firstOf sumTo
+rows-first m zero = refl
+rows-first m (suc p) = omega (arith, rows-first m p)
+
+-- where the rows and the records of the station at place p begin, and how many there are
+pub record Begins (m bases : List ℕ) (p : ℕ) : Type 0 where
+  pub row : at bases p ≡ rowsTo m p
+  pub first : at bases p - p ≡ firstOf m p
+  pub low : p ≤ at bases p
+  pub few : at m p ≤ 511
+  pub high : at bases p + (at m p + 1) ≤ 4096
+
+pub begins : (full : Cut) → Short full → (bases : List ℕ) → bases ≡ tab 8 (rowsTo (full .counts)) → (p : ℕ) → p < full .n → Begins (full .counts) bases p
+begins full short bases e p h =
+    let m = full .counts in
+    let r : at bases p ≡ rowsTo m p = ap (λ (l : List ℕ). at l p) e ∙ getD-tab 8 _ 0 p (omega (arith, short .n-most)) in
+    record {
+      row = r;
+      first = omega (arith, r, rows-first m p);
+      low = omega (arith, r, rows-first m p);
+      few = short .few p;
+      high = omega (arith, r, short .n-most, rowsTo-more m p, rowsTo-le m (short .few) (p + 1));
+    }
 
 -- a table made of stretches of k numbers a row, one row for each event and one for the start
 module _ (m : List ℕ) (k : ℕ) (f : ℕ → ℕ → ℕ) where

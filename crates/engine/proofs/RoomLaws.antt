@@ -1,14 +1,39 @@
--- The first of the tests 9 to 12 that fails, one law for each way out. Assumes nothing.
+-- The first of the tests 9 to 12 that fails, one law for each way out. In order: the stations above n; the tests; no fault. Assumes nothing.
 use mathlib.Core.Path.{_≡_, refl, sym, _∙_}
-use mathlib.Core.Bool.{Bool, true, false}
-use Prim.Native.Nat.{ℕ, _≤_, _<_, min}
+use mathlib.Core.Bool.{Bool, true, false, not, _||_}
+use Prim.Native.Nat.{ℕ, _+_, _≤_, _<_, min}
 use native.Mathlib.Decide.{decLe}
 use native.Mathlib.Omega.{arith}
-use borrow.Author.Tests.{leb-true, le-leb, lt-leb}
+use lib.Dec.{ltb}
+use borrow.Author.Tests.{leb-true, le-leb, lt-leb, lt-ltb, le-ltb}
+use Rattle.cuts.specs.Below.{every}
+use Rattle.cuts.proofs.BelowLaws.{or-right, every-true, true-every, every-false, every-more}
 use Rattle.recording.specs.Check.{faultOf}
 use Rattle.recording.proofs.CheckLaws.{Pass, no-test, and-then, Numbered, no-number, and-number, pass-fault, fault-pass, fault-next, fault-here}
+use Rattle.condition.specs.Condition.{windowAt}
 use Rattle.condition.specs.declared.Condition.{Condition}
 use Rattle.engine.specs.Job.{noneAbove, roomTests}
+
+-- the stations above n are walked through, from the first on
+module _ (c : Condition) (n : ℕ) where
+  unfoldable pub unaskedTo : ℕ → Bool
+  unaskedTo p = every p (λ q. not (windowAt c q .asked) || ltb q n)
+
+  pub unasked-none : unaskedTo n ≡ true
+  unfolding unaskedTo
+  unasked-none = true-every n _ (λ q h. or-right (not (windowAt c q .asked)) (ltb q n) (lt-ltb q n h))
+
+  pub unasked-more : (p : ℕ) → unaskedTo p ≡ true → windowAt c p .asked ≡ false → unaskedTo (p + 1) ≡ true
+  unfolding unaskedTo
+  unasked-more p h e = every-more p _ h (rw e refl)
+
+  pub asked-above : (p : ℕ) → n ≤ p → p < 8 → windowAt c p .asked ≡ true → false ≡ noneAbove c n
+  unfolding noneAbove
+  asked-above p h l e = sym (every-false 8 _ p l (rw (e, le-ltb p n h) refl))
+
+  pub unasked-all : (p : ℕ) → unaskedTo p ≡ true → 8 ≤ p → true ≡ noneAbove c n
+  unfolding noneAbove unaskedTo
+  unasked-all p h l = sym (true-every 8 _ (λ q k. every-true p _ h q (omega arith)))
 
 module _ (c : Condition) (n b t marks path : ℕ) where
   pub room-9 : noneAbove c n ≡ false → 9 ≡ faultOf (roomTests c n b t marks path)

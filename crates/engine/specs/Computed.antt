@@ -15,13 +15,15 @@ use Rattle.cut.specs.declared.Cut.{Cut}
 use Rattle.recording.specs.Recording.{Recording, messages, stamps, levels}
 use Rattle.recording.specs.Recording as recorded
 use Rattle.recording.specs.Form.{recordingOf, lead8, width8}
-use Rattle.recording.specs.Check.{checkedOf}
+use Rattle.recording.specs.Check.{faultOf, atWhole, orElse, checkedOf}
 use Rattle.recording.specs.Decode.{fullOf, stampsIn, levelsIn}
+use Rattle.recording.specs.declared.Refusal.{Refusal}
 use Rattle.recording.specs.declared.Checked.{Checked}
 use Rattle.condition.specs.Condition.{holdsOf}
 use Rattle.condition.specs.declared.Condition.{Condition}
 use Rattle.marks.specs.Flat.{cutOfCounts}
-use Rattle.engine.specs.Job.{noneAbove}
+use Rattle.marks.specs.declared.Settled as Settles
+use Rattle.engine.specs.Job.{noneAbove, roomTests, refusedBy}
 use Rattle.engine.specs.declared.Reply.{Reply}
 
 module _ (c : Condition) (s : List ℕ) where
@@ -35,6 +37,10 @@ module _ (c : Condition) (s : List ℕ) where
   abbrev pub latticeOf : Lattice
   latticeOf = lattice (messages R) (stamps R) (atCut (levels R) (holdsOf c))
 
+  -- the answer of the checks from the recording's on, for rooms of so many bytes
+  unfoldable pub checkedPart : ℕ → ℕ → Checked
+  checkedPart marks path = orElse (checkedOf lead8 width8 s) (atWhole (faultOf (roomTests c (length m) (box m) (total m) marks path)))
+
   -- the recording is accepted, its tables are laid out, no station that it lacks is asked and the rooms suffice
   pub record Settled (full : Cut) (stamps levels : List ℕ) (marks path : ℕ) : Type 0 where
     pub accepts : checkedOf lead8 width8 s ≡ Checked.Accepted
@@ -45,6 +51,12 @@ module _ (c : Condition) (s : List ℕ) where
     pub limit : box m ≤ 65536
     pub marks-fit : box m ≤ marks
     pub path-fit : total m ≤ path
+
+-- a recording that is accepted, and its tables
+pub record Laid (s stamps levels : List ℕ) : Type 0 where
+  pub accepts : checkedOf lead8 width8 s ≡ Checked.Accepted
+  pub stamps-are : stamps ≡ stampsIn lead8 width8 s (replicate 32704 0)
+  pub levels-are : levels ≡ levelsIn lead8 width8 s (replicate 4088 0)
 
 -- whether there is evidence
 abbrev pub given : Option (List ℕ) → Bool
@@ -74,3 +86,13 @@ pub record Computed (c : Condition) (s marks path : List ℕ) (r : Reply) (marks
   pub reply : r ≡ replyOf (length (m c s)) (possOf (latticeOf c s)) (defOf (latticeOf c s))
   pub marks-after : marks′ ≡ table (latticeOf c s) ++ drop (box (m c s)) marks
   pub path-after : path′ ≡ pathAfter (total (m c s)) (defOf (latticeOf c s)) path
+
+-- what is settled, as a reply
+abbrev pub acceptedBy : Settles.Settled → Reply
+acceptedBy v = record { answer = Checked.Accepted; poss = v .poss; witness = v .witness; def = v .def }
+
+-- the reply to a condition and the bytes of a recording: a refusal and nothing changed, or what is computed
+pub data Answered (c : Condition) (s marks path : List ℕ) : Reply → List ℕ → List ℕ → Type 0 where
+  unfit : {x : Refusal} → checkedPart c s (length marks) (length path) ≡ Checked.Refused x → Answered c s marks path (refusedBy x) marks path
+  fit : {r : Reply} {marks′ path′ : List ℕ} → checkedPart c s (length marks) (length path) ≡ Checked.Accepted → Computed c s marks path r marks′ path′
+      → Answered c s marks path r marks′ path′

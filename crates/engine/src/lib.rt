@@ -1,6 +1,5 @@
 // The reply to a job: both verdicts with their evidence.
-ghost use mathlib.Core.Path.{_≡_};
-ghost use Rattle.engine.specs.Job.{Judged, refusedBy, wholly};
+ghost use Rattle.engine.specs.Job.{Judged};
 use cut::Cut;
 use recording::Checked;
 use recording::Decoded;
@@ -8,6 +7,7 @@ use recording::Refusal;
 
 mod needs;
 mod rooms;
+mod tables;
 mod verdict;
 mod weights;
 
@@ -25,46 +25,18 @@ pub fn judge(job: &[u8], marks: &mut [u8], path: &mut [u8]) -> Reply
 {
     let read = condition::read(job);
     if read.refused != 0 {
-        return refused_wholly(read.refused);
+        return verdict::refused(Refusal {
+            number: read.refused,
+            station: 0,
+            event: 0,
+        });
     }
-    let c = read.condition;
     let s = &job[38..];
     let mut stamps = [0u16; 32704];
     let mut levels = [0u16; 4088];
     let d = recording::decode(s, &mut stamps, &mut levels);
     if let Decoded::Refused(x) = d {
-        return refused(x);
+        return verdict::refused(x);
     }
-    let full = recording::full_cut(s);
-    let fault = rooms::fault(c, full, marks.len(), path.len());
-    if fault != 0 {
-        return refused_wholly(fault);
-    }
-    verdict::verdicts(c, s, full, &stamps, &levels, marks, path)
-}
-
-// A refusal, and nothing beside it.
-fn refused(x: Refusal) -> Reply
-    ensures { λ r. ⌜ r ≡ refusedBy x ⌝ }
-{
-    Reply {
-        answer: Checked::Refused(x),
-        poss: false,
-        witness: Cut {
-            counts: [0u16; 8],
-            n: 0,
-        },
-        def: false,
-    }
-}
-
-// A refusal that is about no record, and nothing beside it.
-fn refused_wholly(number: u8) -> Reply
-    ensures { λ r. ⌜ r ≡ refusedBy (wholly number) ⌝ }
-{
-    refused(Refusal {
-        number: number,
-        station: 0,
-        event: 0,
-    })
+    verdict::verdicts(read.condition, s, &stamps, &levels, marks, path)
 }

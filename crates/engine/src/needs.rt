@@ -5,7 +5,7 @@ ghost use Prim.Native.Nat.{_+_, _*_, _≤_, _<_};
 ghost use lib.ListN.{length, take, drop};
 ghost use Rattle.cuts.specs.Below.{tab};
 ghost use Rattle.cuts.specs.Cut.{at};
-ghost use Rattle.engine.specs.Prepare.{Short, rowsTo, stationNeed, needsTo};
+ghost use Rattle.engine.specs.Prepare.{Short, rowsTo, stationNeed};
 use cut::Cut;
 
 // The rows before those of each station.
@@ -19,29 +19,10 @@ pub fn bases(full: Cut) -> [usize; 8]
     let mut p: usize = 0;
     while p < 8 {
         b[p] = rows;
-        rows += wide(counts[p]) + 1;
+        rows += counts[p] as usize + 1;
         p += 1;
     }
     b
-}
-
-// The needs of all stations' events into the front of the room.
-pub fn lay_needs(full: Cut, stamps: &[u16], needs: &mut [u16])
-    requires { ⌜ Short full × (length (now needs) ≡ 32768) ⌝ }
-    ensures { λ _. ⌜ now (needs .exit) ≡ needsTo (full .counts) (now (stamps .entry)) (full .n) ++ drop (8 * rowsTo (full .counts) (full .n)) (now (needs .entry)) ⌝ }
-{
-    let n = full.n as usize;
-    let counts = full.counts;
-    let mut rows: usize = 0;
-    let mut first: usize = 0;
-    let mut p: usize = 0;
-    while p < n {
-        let m = wide(counts[p]);
-        lay_station_needs(stamps, p, first, m, 8 * rows, needs);
-        rows += m + 1;
-        first += m;
-        p += 1;
-    }
 }
 
 // The needs of the events of the station at place p, whose records begin at `first`, from `at` on.
@@ -86,11 +67,4 @@ pub fn number(table: &[u16], i: usize) -> u16
         return table[i];
     }
     0
-}
-
-// A count as a usize, with its bound.
-pub fn wide(x: u16) -> usize
-    ensures { λ r. ⌜ (r ≡ x) × (r < 65536) ⌝ }
-{
-    x as usize
 }

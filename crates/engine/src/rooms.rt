@@ -1,7 +1,5 @@
 // What a job's recording and condition ask of each other and of the rooms: 9, 10, 11, 12.
 ghost use mathlib.Core.Path.{_≡_};
-ghost use mathlib.Core.Bool.{_||_, not};
-ghost use lib.Dec.{ltb};
 ghost use Rattle.cut.specs.Value.{boxOf, eventsOf};
 ghost use Rattle.recording.specs.Check.{faultOf};
 ghost use Rattle.engine.specs.Job.{noneAbove, roomTests};
@@ -32,24 +30,13 @@ pub fn fault(c: Condition, full: Cut, marks: usize, path: usize) -> u8
 fn none_above(c: Condition, n: u8) -> bool
     ensures { λ r. ⌜ r ≡ noneAbove c n ⌝ }
 {
-    let n = n as usize;
-    let mut p: usize = 0;
+    let mut p = n as usize;
     while p < 8 {
         let w = c.windows[p];
-        if !unasked_or_below(w.asked, p, n) {
+        if w.asked {
             return false;
         }
         p += 1;
-    }
-    true
-}
-
-// Whether the station at place p is not asked, or is one of the n.
-fn unasked_or_below(asked: bool, p: usize, n: usize) -> bool
-    ensures { λ r. ⌜ r ≡ (not asked || ltb p n) ⌝ }
-{
-    if asked {
-        return p < n;
     }
     true
 }

@@ -1,32 +1,12 @@
 // The table of what each station adds, after each of its events, to the sum that decides the condition.
 ghost use mathlib.Core.Path.{_≡_};
 ghost use mathlib.Core.List.{_++_};
-ghost use Prim.Native.Nat.{_+_, _*_, _≤_, _<_};
+ghost use Prim.Native.Nat.{_+_, _≤_, _<_};
 ghost use lib.ListN.{length, take, drop};
 ghost use Rattle.cuts.specs.Below.{tab};
-ghost use Rattle.engine.specs.Prepare.{Short, rowsTo, stationWeight, weightsTo};
+ghost use Rattle.engine.specs.Prepare.{stationWeight};
 use crate::needs;
 use condition::Condition;
-use cut::Cut;
-
-// What all stations add after each of their events, into the front of the room.
-pub fn lay_weights(c: Condition, full: Cut, starts: [u16; 8], levels: &[u16], weights: &mut [u16])
-    requires { ⌜ Short full × (length (now weights) ≡ 4096) ⌝ }
-    ensures { λ _. ⌜ now (weights .exit) ≡ weightsTo (full .counts) c starts (now (levels .entry)) (full .n) ++ drop (1 * rowsTo (full .counts) (full .n)) (now (weights .entry)) ⌝ }
-{
-    let n = full.n as usize;
-    let counts = full.counts;
-    let mut rows: usize = 0;
-    let mut first: usize = 0;
-    let mut p: usize = 0;
-    while p < n {
-        let m = needs::wide(counts[p]);
-        lay_station_weights(c, starts[p], levels, p, first, m, rows, weights);
-        rows += m + 1;
-        first += m;
-        p += 1;
-    }
-}
 
 // What the station at place p adds after each of its events, from `at` on.
 pub fn lay_station_weights(

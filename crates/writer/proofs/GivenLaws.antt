@@ -1,26 +1,26 @@
 -- What was handed to the writer, read as a recording: what its events say is what the lists hold. In order: the code's tables; the recording's counts and
 -- events; the tests before the records. Assumes nothing.
-use mathlib.Core.Path.{_≡_, refl, sym, ap, _∙_}
-use mathlib.Core.Bool.{Bool, true, false, _&&_}
+use mathlib.Core.Path.{_≡_, refl, ap, _∙_}
+use mathlib.Core.Bool.{Bool, true, false, _&&_, cond}
 use mathlib.Core.List.{List, [], _∷_}
 use Prim.Native.Nat.{ℕ, suc, _+_, _-_, _*_, _≤_, _<_}
-use native.Mathlib.Decide.{decLe}
+use native.Mathlib.Decide.{decLe, decLt}
 use native.Mathlib.Omega.{arith}
 use lib.IntN.{pos}
 use lib.ListN.{length, getD, List·getD-eq-default}
-use lib.Dec.{leb}
-use borrow.Author.Tests.{le-leb, leb-true}
-use Rattle.cuts.proofs.ReplyLaws.{refuted}
+use lib.Dec.{leb, eqb}
+use borrow.Author.Tests.{leb-true}
 use Rattle.levels.specs.Level.{isLevel}
 use Rattle.cuts.specs.Below.{every, sumTo, tab}
 use Rattle.cuts.specs.Cut.{at}
-use Rattle.cuts.proofs.BelowLaws.{and-true, length-tab, getD-tab}
+use Rattle.cuts.proofs.BelowLaws.{and-true, length-tab, getD-tab, sumTo-more}
 use Rattle.recording.specs.Recording.{Event, Recording, countsOf, eventAt, stamps, levels}
-use Rattle.writer.specs.Write.{Given, firstGiven, given, recordingGiven, longEnough, notLonger}
-use Rattle.writer.specs.Tables.{wholeFault}
-use Rattle.recording.proofs.SumLaws.{sumTo-part, sumTo-most}
+use Rattle.writer.specs.Write.{Given, firstGiven, given, recordingGiven, longEnough, notLonger, givenTests}
+use Rattle.writer.specs.Tables.{lengthsFault, wholeFault}
+use Rattle.recording.specs.Check.{test, faultOf}
+use Rattle.recording.proofs.SumLaws.{sumTo-grows, sumTo-part, sumTo-most}
 use Rattle.recording.proofs.TabledLaws.{stations-tabled, count-tabled, event-tabled}
-use Rattle.recording.proofs.CheckLaws.{no-test, and-then, pass-fault, fault-next, fault-here}
+use Rattle.recording.proofs.CheckLaws.{fault-le, no-fault}
 
 -- the counts and the records before each station's, as the code has them, of counts that are bytes
 pub count-is : (counts m : List ℕ) → m ≡ tab 8 (at counts) → (p : ℕ) → p < 8 → at m p ≡ at counts p
@@ -39,10 +39,47 @@ module _ (counts firsts : List ℕ) (are : firsts ≡ tab 9 (λ p. sumTo p (at c
           let k : length firsts ≤ p = omega (arith, ap length are, length-tab 9 (λ q. sumTo q (at counts))) in
           omega (arith, List·getD-eq-default firsts 0 k)
 
-  -- a table with room for all records has room for each station's
-  pub rows-enough : (m : List ℕ) → m ≡ tab 8 (at counts) → (n room : ℕ) → n ≤ 8 → 8 * at firsts n ≤ room → (q : ℕ) → suc q ≤ n → 8 * (at firsts q + at m q) ≤ room
-  rows-enough m m-are n room high h q l =
-      omega (arith, first-is n high, first-is q (omega arith), count-is counts m m-are q (omega arith), sumTo-part (at counts) n q (at counts q) l (omega arith))
+  pub first-none : at firsts 0 ≤ 0
+  unfolding sumTo
+  first-none = omega (arith, first-is 0 (omega arith))
+
+  -- where n of the stations have t records in all
+  module _ (n t : ℕ) (high : n ≤ 8) (t-is : t ≡ sumTo n (at counts)) where
+    pub total-most : ((p : ℕ) → at firsts p ≤ 2040) → t ≤ 2040
+    total-most h = omega (arith, first-is n high, h n)
+
+    pub before-all : (r : ℕ) → r < t → r < at firsts 8
+    before-all r l =
+        let z : n + (8 - n) ≡ 8 = omega arith in
+        omega (arith, first-is 8 (omega arith), rw z at (sumTo-grows (at counts) n (8 - n)))
+
+-- the sums before two stations, one of which comes first
+sums-apart : (f : ℕ → ℕ) (p q : ℕ) → p < q → sumTo p f + f p ≤ sumTo q f
+sums-apart f p q h = sumTo-part f q p (f p) h (omega arith)
+
+-- the station that record r is of, and the event: there is one
+module _ (f : ℕ → ℕ) (n r p : ℕ) (low : sumTo p f ≤ r) where
+  pub owner-within : r < sumTo n f → p < n
+  owner-within h = go (decLt p n)
+    where
+      go : Dec (p < n) → p < n
+      go (yes l) = l
+      go (no l) = absurd (omega (arith, rw (let z : n + (p - n) ≡ p = omega arith in z) at (sumTo-grows f n (p - n))))
+
+  pub owner-event : r < sumTo (p + 1) f → r - sumTo p f < f p
+  owner-event h = omega (arith, sumTo-more p f)
+
+  pub owner-same : (q e : ℕ) → r < sumTo (p + 1) f → e < f q → sumTo q f + e ≡ r → q ≡ p
+  owner-same q e h l z = go (decLt q p) (decLt p q)
+    where
+      go : Dec (q < p) → Dec (p < q) → q ≡ p
+      go (yes a) b = absurd (omega (arith, sums-apart f q p a))
+      go (no a) (yes b) = absurd (omega (arith, sums-apart f p q b, sumTo-more p f))
+      go (no a) (no b) = omega arith
+
+-- of six tests that pass the third does
+third : (a b c d e f : Bool) → (a && b && c && d && e && f) ≡ true → c ≡ true
+third a b c d e f h = and-true (a && b) c (and-true (a && b && c) d (and-true (a && b && c && d) e (and-true (a && b && c && d && e) f h .0) .0) .0) .1
 
 module _ (g : Given) where
   abbrev R : Recording
@@ -74,59 +111,27 @@ module _ (g : Given) where
   unfolding firstGiven
   first-part p e h l = sumTo-part m n p e h l
 
-  -- what each list needs to have, where t records are in all, and what it has
-  abbrev needs : ℕ → List ℕ
-  needs t = n ∷ n ∷ t ∷ t ∷ t ∷ t * n ∷ []
-
-  abbrev has : List ℕ
-  has = length (g .counts) ∷ length (g .starts) ∷ length (g .origins) ∷ length (g .numbers) ∷ length (g .levels) ∷ length (g .stamps) ∷ []
-
-  -- six numbers, each at most its fellow
-  abbrev Each : List ℕ → List ℕ → Bool
-  Each a b = every 6 (λ i. leb (at a i) (at b i))
-
-  long-enough : (t : ℕ) → t ≡ firstGiven g n → Each (needs t) has ≡ longEnough g
-  unfolding every longEnough
-  long-enough t e = rw e refl
-
-  not-longer : (t : ℕ) → t ≡ firstGiven g n → Each has (needs t) ≡ notLonger g
-  unfolding every notLonger
-  not-longer t e = rw e refl
-
   -- the first test before the records that fails, as the code finds it
-  pub fault-stations : (1 ≤ n → n ≤ 8 → ⊥) → 2 ≡ wholeFault g
-  unfolding wholeFault
-  fault-stations h = sym (fault-here _ _ (refuted _ (λ t. let (a, b) = and-true (leb 1 n) (leb n 8) t in h (leb-true 1 n a) (leb-true n 8 b))))
+  pub whole-is : wholeFault n (g .counts) (g .starts) (length (g .origins)) (length (g .numbers)) (length (g .levels)) (length (g .stamps)) ≡ faultOf (givenTests g)
+  unfolding wholeFault lengthsFault longEnough notLonger firstGiven faultOf
+  whole-is = go (leb 1 n && leb n 8) (longEnough g) (notLonger g) (every n (λ p. isLevel (getD (g .starts) p (pos 0))))
+    where
+      go : (a b c d : Bool) → cond a (cond (eqb (cond b (cond c 0 3) 1) 0) (cond d 0 14) (cond b (cond c 0 3) 1)) 2 ≡ faultOf (test 2 a ∷ test 1 b ∷ test 3 c ∷ test 14 d ∷ [])
+      go false b c d = refl
+      go true false c d = refl
+      go true true false d = refl
+      go true true true d = refl
 
-  module _ (low : 1 ≤ n) (high : n ≤ 8) (firsts : List ℕ) (are : firsts ≡ tab 9 (λ p. sumTo p (at (g .counts)))) where
-    in-order : (leb 1 n && leb n 8) ≡ true
-    in-order = simp (le-leb 1 n low, le-leb n 8 high)
+  pub whole-most : faultOf (givenTests g) < 16
+  whole-most =
+      let h : faultOf (givenTests g) ≤ 14 = fault-le _ _ 14 (omega arith) (fault-le _ _ 14 (omega arith) (fault-le _ _ 14 (omega arith) (fault-le _ _ 14 (omega arith) (no-fault 14)))) in
+      omega (arith, h)
 
-    first-given : at firsts n ≡ firstGiven g n
-    unfolding firstGiven
-    first-given = first-is (g .counts) firsts are n high
-
-    module _ (u : Bool) (eu : u ≡ Each (needs (at firsts n)) has) where
-      long-is : longEnough g ≡ u
-      long-is = sym (eu ∙ long-enough _ first-given)
-
-      pub fault-short : u ≡ false → 1 ≡ wholeFault g
-      unfolding wholeFault
-      fault-short h = sym (fault-next _ _ in-order ∙ fault-here _ _ (long-is ∙ h))
-
-      module _ (yes-u : u ≡ true) (v : Bool) (ev : v ≡ Each has (needs (at firsts n))) where
-        longer-is : notLonger g ≡ v
-        longer-is = sym (ev ∙ not-longer _ first-given)
-
-        pub fault-long : v ≡ false → 3 ≡ wholeFault g
-        unfolding wholeFault
-        fault-long h = sym (fault-next _ _ in-order ∙ fault-next _ _ (long-is ∙ yes-u) ∙ fault-here _ _ (longer-is ∙ h))
-
-        module _ (yes-v : v ≡ true) (x : Bool) (ex : x ≡ every n (λ p. isLevel (getD (g .starts) p (pos 0)))) where
-          pub fault-level : x ≡ false → 14 ≡ wholeFault g
-          unfolding wholeFault
-          fault-level h = sym (fault-next _ _ in-order ∙ fault-next _ _ (long-is ∙ yes-u) ∙ fault-next _ _ (longer-is ∙ yes-v) ∙ fault-here _ _ (sym ex ∙ h))
-
-          pub fault-none : x ≡ true → 0 ≡ wholeFault g
-          unfolding wholeFault
-          fault-none h = sym (pass-fault (and-then in-order (and-then (long-is ∙ yes-u) (and-then (longer-is ∙ yes-v) (and-then (sym ex ∙ h) no-test)))))
+  -- lists neither too short nor too long have a record's part of each record
+  pub records-just : longEnough g ≡ true → notLonger g ≡ true → length (g .origins) ≡ firstGiven g n
+  unfolding longEnough notLonger
+  records-just a b =
+      let t = firstGiven g n in
+      let x = third (leb n (length (g .counts))) (leb n (length (g .starts))) (leb t (length (g .origins))) (leb t (length (g .numbers))) (leb t (length (g .levels))) _ a in
+      let y = third (leb (length (g .counts)) n) (leb (length (g .starts)) n) (leb (length (g .origins)) t) (leb (length (g .numbers)) t) (leb (length (g .levels)) t) _ b in
+      omega (arith, leb-true t (length (g .origins)) x, leb-true (length (g .origins)) t y)

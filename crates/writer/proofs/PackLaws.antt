@@ -21,7 +21,8 @@ use Rattle.levels.proofs.LevelLaws.{level-field, level-bits}
 use Rattle.cuts.specs.Cut.{at}
 use Rattle.recording.specs.Form.{bytesFor, stationBit, recordBit}
 use Rattle.writer.specs.Write.{Given, firstGiven}
-use Rattle.writer.specs.Pack.{turns, levelBits, putPadding, putCount, putStation, putRecord, stationTurn, recordTurn, named, stationed, recorded, packInto}
+use Rattle.writer.specs.Tables.{levelBits}
+use Rattle.writer.specs.Pack.{turns, putPadding, putCount, putPair, putRecord, stationTurn, recordTurn, putEnds, ended, stationed, packInto}
 
 -- t is s but for bits from a on and before b
 pub record Kept (s t : List ℕ) (a b : ℕ) : Type 0 where
@@ -82,16 +83,16 @@ pub count-more : (w i q x : ℕ) (count : ℕ → ℕ) (s t : List ℕ) → x �
 unfolding putCount
 count-more w i q x count s t e h = rw e (turns-more (putCount w i count) s t q h)
 
-pub station-more : (lead w p i m : ℕ) (start : ℤ) (counts : List ℕ) (starts : List ℤ) (s t : List ℕ) → i ≡ stationBit lead w p → m ≡ at counts p → start ≡ getD starts p (pos 0)
-    → t ≡ turns (stationTurn lead w counts starts) s p → putStation w i m start t ≡ turns (stationTurn lead w counts starts) s (p + 1)
+pub station-more : (lead w p i m bits : ℕ) (counts : List ℕ) (starts : List ℤ) (s t : List ℕ) → i ≡ stationBit lead w p → m ≡ at counts p → bits ≡ levelBits (getD starts p (pos 0))
+    → t ≡ turns (stationTurn lead w counts starts) s p → putPair w i m bits t ≡ turns (stationTurn lead w counts starts) s (p + 1)
 unfolding stationTurn
-station-more lead w p i m start counts starts s t e₁ e₂ e₃ h = rw (e₁, e₂, e₃) (turns-more (stationTurn lead w counts starts) s t p h)
+station-more lead w p i m bits counts starts s t e₁ e₂ e₃ h = rw (e₁, e₂, e₃) (turns-more (stationTurn lead w counts starts) s t p h)
 
-pub record-more : (lead w n r i o k : ℕ) (level : ℤ) (origins numbers : List ℕ) (levels : List ℤ) (stamps s t : List ℕ)
-    → i ≡ recordBit lead w n r → o ≡ at origins r → k ≡ at numbers r → level ≡ getD levels r (pos 0) → t ≡ turns (recordTurn lead w n origins numbers levels stamps) s r
-    → putRecord w i o k level (λ q. at stamps (r * n + q)) n t ≡ turns (recordTurn lead w n origins numbers levels stamps) s (r + 1)
+pub record-more : (lead w n r i o k bits : ℕ) (origins numbers : List ℕ) (levels : List ℤ) (stamps s t : List ℕ)
+    → i ≡ recordBit lead w n r → o ≡ at origins r → k ≡ at numbers r → bits ≡ levelBits (getD levels r (pos 0)) → t ≡ turns (recordTurn lead w n origins numbers levels stamps) s r
+    → putRecord w i o k bits (λ q. at stamps (r * n + q)) n t ≡ turns (recordTurn lead w n origins numbers levels stamps) s (r + 1)
 unfolding recordTurn
-record-more lead w n r i o k level origins numbers levels stamps s t e₁ e₂ e₃ e₄ h = rw (e₁, e₂, e₃, e₄) (turns-more (recordTurn lead w n origins numbers levels stamps) s t r h)
+record-more lead w n r i o k bits origins numbers levels stamps s t e₁ e₂ e₃ e₄ h = rw (e₁, e₂, e₃, e₄) (turns-more (recordTurn lead w n origins numbers levels stamps) s t r h)
 
 -- turns of which number j changes only bits from b j on and before b (j + 1)
 module _ (turn : ℕ → List ℕ → List ℕ) (b : ℕ → ℕ) (up : (j : ℕ) → b j ≤ b (suc j)) (kept : (j : ℕ) (s : List ℕ) → Kept s (turn j s) (b j) (b (suc j))) (s : List ℕ) where
@@ -120,12 +121,15 @@ module _ (turn : ℕ → List ℕ → List ℕ) (b : ℕ → ℕ) (up : (j : ℕ
       let e : suc j + (n - suc j) ≡ n = omega arith in
       (rw e at (kept-later (suc j) (n - suc j))) .beside i k (inl l)
 
--- the whole as the code makes it
-pub pack-is : (lead w : ℕ) (g : Given) (s b c d : List ℕ) (t i : ℕ) → t ≡ firstGiven g (g .n) → i ≡ recordBit lead w (g .n) t
-    → b ≡ turns (stationTurn lead w (g .counts) (g .starts)) (putOf s (lead - 4) 4 (g .n)) (g .n)
-    → c ≡ turns (recordTurn lead w (g .n) (g .origins) (g .numbers) (g .levels) (g .stamps)) b t → d ≡ putPadding i c → d ≡ packInto lead w g s
-unfolding packInto recorded stationed named
-pack-is lead w g s b c d t i et ei eb ec ed = rw (ed, ei, ec, eb, et) refl
+-- the ends, and the whole, as the code makes them
+pub ends-are : (lead w n t i k : ℕ) (s b c : List ℕ) → i ≡ recordBit lead w n t → k ≡ bytesFor i → b ≡ putOf s (lead - 4) 4 n → c ≡ putOf b i (8 * k - i) 0 → c ≡ putEnds lead w n t s
+unfolding putEnds putPadding
+ends-are lead w n t i k s b c ei ek eb ec = rw (ec, ek, ei, eb) refl
+
+pub pack-is : (lead w : ℕ) (g : Given) (s b c : List ℕ) (t : ℕ) → t ≡ firstGiven g (g .n) → b ≡ turns (stationTurn lead w (g .counts) (g .starts)) (putEnds lead w (g .n) t s) (g .n)
+    → c ≡ turns (recordTurn lead w (g .n) (g .origins) (g .numbers) (g .levels) (g .stamps)) b t → c ≡ packInto lead w g s
+unfolding packInto stationed ended
+pack-is lead w g s b c t et eb ec = rw (ec, eb, et) refl
 
 module _ (w i : ℕ) (count : ℕ → ℕ) where
   kept-count : (q : ℕ) (s : List ℕ) → Kept s (putCount w i count q s) (i + w * q) (i + w * suc q)
@@ -151,27 +155,27 @@ module _ (w i : ℕ) (count : ℕ → ℕ) where
       ∙ put-field (turns (putCount w i count) s q) (i + w * q) w (count q) h₁ h₂ r f
 
 -- a level's bits read back
-pub put-level : (s : List ℕ) (i : ℕ) (v : ℤ) → i + 12 ≤ 8 * length s → isLevel v ≡ true → twos 12 (field (putOf s i 12 (levelBits v)) i 12) ≡ v
+pub put-level : (s : List ℕ) (i bits : ℕ) (v : ℤ) → bits ≡ levelBits v → i + 12 ≤ 8 * length s → isLevel v ≡ true → twos 12 (field (putOf s i 12 bits) i 12) ≡ v
 unfolding levelBits
-put-level s i v h l = rw l (ap (twos 12) (put-field s i 12 (bitsOf 12 v) (omega arith) (omega arith) h (level-bits v l)) ∙ level-field v l)
+put-level s i bits v e h l = rw (e, l) (ap (twos 12) (put-field s i 12 (bitsOf 12 v) (omega arith) (omega arith) h (level-bits v l)) ∙ level-field v l)
 
 -- a station's part
-module _ (w i m : ℕ) (start : ℤ) (s : List ℕ) where
-  pub kept-station : Kept s (putStation w i m start s) i (i + w + 12)
-  unfolding putStation
-  kept-station = kept-then i (i + w + 12) (kept-put s i w m) (kept-put (putOf s i w m) (i + w) 12 (levelBits start)) (le-refl i, omega arith) (omega arith, le-refl (i + w + 12))
+module _ (w i m bits : ℕ) (s : List ℕ) where
+  pub kept-station : Kept s (putPair w i m bits s) i (i + w + 12)
+  unfolding putPair
+  kept-station = kept-then i (i + w + 12) (kept-put s i w m) (kept-put (putOf s i w m) (i + w) 12 bits) (le-refl i, omega arith) (omega arith, le-refl (i + w + 12))
 
   module _ (room : i + w + 12 ≤ 8 * length s) where
-    pub station-count : 1 ≤ w → w ≤ 16 → m < 2 ^ w → field (putStation w i m start s) i w ≡ m
-    unfolding putStation
-    station-count h₁ h₂ f = kept-put (putOf s i w m) (i + w) 12 (levelBits start) .beside i w (inl (le-refl (i + w))) ∙ put-field s i w m h₁ h₂ (omega arith) f
+    pub station-count : 1 ≤ w → w ≤ 16 → m < 2 ^ w → field (putPair w i m bits s) i w ≡ m
+    unfolding putPair
+    station-count h₁ h₂ f = kept-put (putOf s i w m) (i + w) 12 bits .beside i w (inl (le-refl (i + w))) ∙ put-field s i w m h₁ h₂ (omega arith) f
 
-    pub station-start : isLevel start ≡ true → twos 12 (field (putStation w i m start s) (i + w) 12) ≡ start
-    unfolding putStation
-    station-start l = put-level (putOf s i w m) (i + w) start (rw (kept-put s i w m .long) room) l
+    pub station-start : (v : ℤ) → bits ≡ levelBits v → isLevel v ≡ true → twos 12 (field (putPair w i m bits s) (i + w) 12) ≡ v
+    unfolding putPair
+    station-start v e l = put-level (putOf s i w m) (i + w) bits v e (rw (kept-put s i w m .long) room) l
 
 -- a record
-module _ (w i o k : ℕ) (level : ℤ) (count : ℕ → ℕ) (n : ℕ) (s : List ℕ) where
+module _ (w i o k bits : ℕ) (count : ℕ → ℕ) (n : ℕ) (s : List ℕ) where
   abbrev s₁ : List ℕ
   s₁ = putOf s i 4 o
 
@@ -179,7 +183,7 @@ module _ (w i o k : ℕ) (level : ℤ) (count : ℕ → ℕ) (n : ℕ) (s : List
   s₂ = putOf s₁ (i + 4) w k
 
   abbrev s₃ : List ℕ
-  s₃ = putOf s₂ (i + 4 + w) 12 (levelBits level)
+  s₃ = putOf s₂ (i + 4 + w) 12 bits
 
   kept₁ : Kept s s₁ i (i + 4)
   kept₁ = kept-put s i 4 o
@@ -188,34 +192,34 @@ module _ (w i o k : ℕ) (level : ℤ) (count : ℕ → ℕ) (n : ℕ) (s : List
   kept₂ = kept-put s₁ (i + 4) w k
 
   kept₃ : Kept s₂ s₃ (i + 4 + w) (i + 4 + w + 12)
-  kept₃ = kept-put s₂ (i + 4 + w) 12 (levelBits level)
+  kept₃ = kept-put s₂ (i + 4 + w) 12 bits
 
-  kept₄ : Kept s₃ (putRecord w i o k level count n s) (i + 16 + w) (i + 16 + w + w * n)
+  kept₄ : Kept s₃ (putRecord w i o k bits count n s) (i + 16 + w) (i + 16 + w + w * n)
   unfolding putRecord
   kept₄ = kept-counts w (i + 16 + w) count s₃ n
 
   kept-head : Kept s s₃ i (i + 16 + w)
   kept-head = kept-then i (i + 16 + w) (kept-then i (i + 4 + w) kept₁ kept₂ (omega arith) (omega arith)) kept₃ (omega arith) (omega arith)
 
-  pub kept-record : Kept s (putRecord w i o k level count n s) i (i + 16 + w + w * n)
+  pub kept-record : Kept s (putRecord w i o k bits count n s) i (i + 16 + w + w * n)
   kept-record = kept-then i (i + 16 + w + w * n) kept-head kept₄ (omega arith) (omega arith)
 
   module _ (room : i + 16 + w + w * n ≤ 8 * length s) where
-    pub record-origin : o < 16 → field (putRecord w i o k level count n s) i 4 ≡ o
+    pub record-origin : o < 16 → field (putRecord w i o k bits count n s) i 4 ≡ o
     record-origin f =
         kept₄ .beside i 4 (inl (omega arith)) ∙ kept₃ .beside i 4 (inl (omega arith)) ∙ kept₂ .beside i 4 (inl (omega arith))
         ∙ put-field s i 4 o (omega arith) (omega arith) (omega arith) f
 
-    pub record-number : 1 ≤ w → w ≤ 16 → k < 2 ^ w → field (putRecord w i o k level count n s) (i + 4) w ≡ k
+    pub record-number : 1 ≤ w → w ≤ 16 → k < 2 ^ w → field (putRecord w i o k bits count n s) (i + 4) w ≡ k
     record-number h₁ h₂ f =
         kept₄ .beside (i + 4) w (inl (omega arith)) ∙ kept₃ .beside (i + 4) w (inl (omega arith))
         ∙ put-field s₁ (i + 4) w k h₁ h₂ (rw (kept₁ .long) (omega arith)) f
 
-    pub record-level : isLevel level ≡ true → twos 12 (field (putRecord w i o k level count n s) (i + 4 + w) 12) ≡ level
-    record-level l =
-        ap (twos 12) (kept₄ .beside (i + 4 + w) 12 (inl (omega arith))) ∙ put-level s₂ (i + 4 + w) level (rw (kept₂ .long, kept₁ .long) (omega arith)) l
+    pub record-level : (v : ℤ) → bits ≡ levelBits v → isLevel v ≡ true → twos 12 (field (putRecord w i o k bits count n s) (i + 4 + w) 12) ≡ v
+    record-level v e l =
+        ap (twos 12) (kept₄ .beside (i + 4 + w) 12 (inl (omega arith))) ∙ put-level s₂ (i + 4 + w) bits v e (rw (kept₂ .long, kept₁ .long) (omega arith)) l
 
-    pub record-count : 1 ≤ w → w ≤ 16 → (q : ℕ) → q < n → count q < 2 ^ w → field (putRecord w i o k level count n s) (i + 16 + w + w * q) w ≡ count q
+    pub record-count : 1 ≤ w → w ≤ 16 → (q : ℕ) → q < n → count q < 2 ^ w → field (putRecord w i o k bits count n s) (i + 16 + w + w * q) w ≡ count q
     unfolding putRecord
     record-count h₁ h₂ q l f = counts-field w (i + 16 + w) count s₃ n q h₁ h₂ (rw (kept-head .long) room) l f
 

@@ -1,8 +1,8 @@
 -- What the writer puts packs the recording that was handed in (`packs-given`): each field lies beside all that is put after it, so it reads back; the
 -- values fit their fields because the checks passed; behind the last whole byte the room is as it was. In order: one part after the other; each field
 -- read back; the recording; what was accepted. Assumes nothing.
-use mathlib.Core.Path.{_≡_, sym, ap, _∙_}
-use mathlib.Core.Logic.{inl}
+use mathlib.Core.Path.{_≡_, refl, sym, ap, _∙_}
+use mathlib.Core.Logic.{inl, inr}
 use mathlib.Core.List.{List, _++_}
 use Prim.Native.Nat.{ℕ, suc, _+_, _-_, _*_, _≤_, _<_}
 use native.Mathlib.Nat.{le-refl, mul-le-mul-left}
@@ -11,13 +11,15 @@ use lib.IntN.{pos}
 use lib.ListN.{length, getD, take, drop, take-append-drop}
 use lib.Seq.{length-take-le}
 use Rattle.bits.specs.Bits.{field}
+use Rattle.put.specs.Put.{putOf}
 use Rattle.bits.proofs.BitsLaws.{field-take}
 use Rattle.levels.specs.Level.{twos}
 use Rattle.cuts.specs.Cut.{at}
 use Rattle.cuts.proofs.BelowLaws.{sumTo-same, tab-same}
 use Rattle.recording.specs.Form.{bytesFor, stationBit, recordSize, recordBit, nAt, mAt, startAt, firstAt, originAt, numberAt, levelAt, countAt, eventOf, recordingOf, needed, padding}
 use Rattle.writer.specs.Write.{Given, firstGiven, given, recordingGiven, neededGiven, checkedGiven, Packs}
-use Rattle.writer.specs.Pack.{turns, putStation, putRecord, stationTurn, recordTurn, named, stationed, recorded, packInto}
+use Rattle.writer.specs.Tables.{levelBits}
+use Rattle.writer.specs.Pack.{turns, putPair, putRecord, stationTurn, recordTurn, putEnds, ended, stationed, packInto}
 use Rattle.recording.specs.declared.Checked.{Checked}
 use Rattle.writer.proofs.CheckedGiven.{accepts}
 use Rattle.writer.proofs.FittingRight.{Fitting, accepts-fitting}
@@ -88,28 +90,30 @@ module _ (lead w : ℕ) (g : Given) (room : List ℕ) where
   lead-needed : lead ≤ 8 * neededGiven lead w g
   lead-needed = omega (arith, lead-station, station-needed)
 
-  kept-stationed : Kept (named lead w g room) (stationed lead w g room) lead (stationBit lead w n)
-  unfolding stationed
-  kept-stationed = rw first-station at (kept-turns turnStation (stationBit lead w) station-up station-kept (named lead w g room) n)
+  abbrev named : List ℕ
+  named = putOf room (lead - 4) 4 n
 
-  kept-recorded : Kept (stationed lead w g room) (recorded lead w g room) (stationBit lead w n) end
-  unfolding recorded
+  kept-padded : Kept named (ended lead w g room) end (8 * neededGiven lead w g)
+  unfolding ended putEnds neededGiven
+  kept-padded = kept-padding end named
+
+  kept-stationed : Kept (ended lead w g room) (stationed lead w g room) lead (stationBit lead w n)
+  unfolding stationed
+  kept-stationed = rw first-station at (kept-turns turnStation (stationBit lead w) station-up station-kept (ended lead w g room) n)
+
+  kept-recorded : Kept (stationed lead w g room) (packInto lead w g room) (stationBit lead w n) end
+  unfolding packInto
   kept-recorded = rw first-record at (kept-turns turnRecord (recordBit lead w n) record-up record-kept (stationed lead w g room) T)
 
-  kept-padded : Kept (recorded lead w g room) (packInto lead w g room) end (8 * neededGiven lead w g)
-  unfolding packInto neededGiven
-  kept-padded = kept-padding end (recorded lead w g room)
+  -- what is put after the ends lies between them
+  after-ended : Kept (ended lead w g room) (packInto lead w g room) lead end
+  after-ended = kept-then _ _ kept-stationed kept-recorded (le-refl _, station-end) (lead-station, le-refl _)
 
-  -- from each part on, what is put after it changes only what lies behind
-  after-stationed : Kept (stationed lead w g room) (packInto lead w g room) (stationBit lead w n) (8 * neededGiven lead w g)
-  after-stationed = kept-then _ _ kept-recorded kept-padded (le-refl _, end-needed) (station-end, le-refl _)
-
-  after-named : Kept (named lead w g room) (packInto lead w g room) lead (8 * neededGiven lead w g)
-  after-named = kept-then _ _ kept-stationed after-stationed (le-refl _, station-needed) (lead-station, le-refl _)
+  after-named : Kept named (packInto lead w g room) lead (8 * neededGiven lead w g)
+  after-named = kept-then _ _ kept-padded after-ended (omega (arith, lead-station, station-end), le-refl _) (le-refl _, end-needed)
 
   module _ (leads : 4 ≤ lead) where
-    kept-named : Kept room (named lead w g room) (lead - 4) lead
-    unfolding named
+    kept-named : Kept room named (lead - 4) lead
     kept-named =
         let e : lead - 4 + 4 ≡ lead = omega arith in
         rw e at (kept-put room (lead - 4) 4 n)
@@ -117,19 +121,21 @@ module _ (lead w : ℕ) (g : Given) (room : List ℕ) where
     pub kept-packed : Kept room (packInto lead w g room) (lead - 4) (8 * neededGiven lead w g)
     kept-packed = kept-then _ _ kept-named after-named (le-refl _, lead-needed) (omega arith, le-refl _)
 
+    long-ended : length (ended lead w g room) ≡ length room
+    long-ended = kept-padded .long ∙ kept-named .long
+
     module _ (w₁ : 1 ≤ w) (w₂ : w ≤ 16) (fit : Fitting w g) (enough : neededGiven lead w g ≤ length room) where
       abbrev t : List ℕ
       t = packInto lead w g room
 
       -- n
       n-back : field t (lead - 4) 4 ≡ n
-      unfolding named
       n-back = after-named .beside (lead - 4) 4 (inl (omega arith)) ∙ put-field room (lead - 4) 4 n (omega arith) (omega arith) (omega (arith, lead-needed)) (omega (arith, fit .most))
 
       -- the part of the station at place p
       module _ (p : ℕ) (hp : p < n) where
         abbrev s₁ : List ℕ
-        s₁ = turns turnStation (named lead w g room) p
+        s₁ = turns turnStation (ended lead w g room) p
 
         abbrev i₁ : ℕ
         i₁ = stationBit lead w p
@@ -143,19 +149,19 @@ module _ (lead w : ℕ) (g : Given) (room : List ℕ) where
         within-stations = omega (arith, mul-le-mul-left (w + 12) hp)
 
         station-room : i₁ + w + 12 ≤ 8 * length s₁
-        station-room = rw (kept-turns turnStation (stationBit lead w) station-up station-kept (named lead w g room) p .long, kept-named .long) (omega (arith, next-station, within-stations, station-needed))
+        station-room = rw (kept-turns turnStation (stationBit lead w) station-up station-kept (ended lead w g room) p .long, long-ended) (omega (arith, next-station, within-stations, station-needed))
 
-        station-back : (j k : ℕ) → j + k ≤ i₁ + w + 12 → field t j k ≡ field (putStation w i₁ (at (g .counts) p) (getD (g .starts) p (pos 0)) s₁) j k
+        station-back : (j k : ℕ) → j + k ≤ i₁ + w + 12 → field t j k ≡ field (putPair w i₁ (at (g .counts) p) (levelBits (getD (g .starts) p (pos 0))) s₁) j k
         unfolding stationed stationTurn
         station-back j k h =
-            after-stationed .beside j k (inl (omega (arith, next-station, within-stations)))
-            ∙ turns-field turnStation (stationBit lead w) station-up station-kept (named lead w g room) n p j k hp (omega (arith, next-station))
+            kept-recorded .beside j k (inl (omega (arith, next-station, within-stations)))
+            ∙ turns-field turnStation (stationBit lead w) station-up station-kept (ended lead w g room) n p j k hp (omega (arith, next-station))
 
         m-back : field t i₁ w ≡ at (g .counts) p
         m-back = station-back i₁ w (omega arith) ∙ station-count _ _ _ _ _ station-room w₁ w₂ (fit .counts p hp)
 
         start-back : twos 12 (field t (i₁ + w) 12) ≡ getD (g .starts) p (pos 0)
-        start-back = ap (twos 12) (station-back (i₁ + w) 12 (omega arith)) ∙ station-start _ _ _ _ _ station-room (fit .starts p hp)
+        start-back = ap (twos 12) (station-back (i₁ + w) 12 (omega arith)) ∙ station-start _ _ _ _ _ station-room _ refl (fit .starts p hp)
 
       -- the record of event e + 1 of the station at place p
       module _ (p e : ℕ) (hp : p < n) (he : e < at (g .counts) p) where
@@ -169,7 +175,7 @@ module _ (lead w : ℕ) (g : Given) (room : List ℕ) where
         i₂ = recordBit lead w n r
 
         abbrev put : List ℕ
-        put = putRecord w i₂ (at (g .origins) r) (at (g .numbers) r) (getD (g .levels) r (pos 0)) (λ q. at (g .stamps) (r * n + q)) n s₂
+        put = putRecord w i₂ (at (g .origins) r) (at (g .numbers) r) (levelBits (getD (g .levels) r (pos 0))) (λ q. at (g .stamps) (r * n + q)) n s₂
 
         r-within : r < T
         r-within = omega (arith, first-part g p (suc e) hp he)
@@ -184,14 +190,13 @@ module _ (lead w : ℕ) (g : Given) (room : List ℕ) where
 
         record-room : i₂ + 16 + w + w * n ≤ 8 * length s₂
         record-room =
-            rw (kept-turns turnRecord (recordBit lead w n) record-up record-kept (stationed lead w g room) r .long, kept-stationed .long, kept-named .long)
+            rw (kept-turns turnRecord (recordBit lead w n) record-up record-kept (stationed lead w g room) r .long, kept-stationed .long, long-ended)
             (omega (arith, next-record, within-records, end-needed))
 
         record-back : (j k : ℕ) → j + k ≤ i₂ + 16 + w + w * n → field t j k ≡ field put j k
-        unfolding recorded recordTurn
+        unfolding packInto recordTurn
         record-back j k h =
-            kept-padded .beside j k (inl (omega (arith, next-record, within-records)))
-            ∙ turns-field turnRecord (recordBit lead w n) record-up record-kept (stationed lead w g room) T r j k r-within (omega (arith, next-record))
+            turns-field turnRecord (recordBit lead w n) record-up record-kept (stationed lead w g room) T r j k r-within (omega (arith, next-record))
 
         origin-back : field t i₂ 4 ≡ at (g .origins) r
         origin-back = record-back i₂ 4 (omega arith) ∙ record-origin _ _ _ _ _ _ _ _ record-room (fit .origins p e hp he)
@@ -200,7 +205,7 @@ module _ (lead w : ℕ) (g : Given) (room : List ℕ) where
         number-back = record-back (i₂ + 4) w (omega arith) ∙ record-number _ _ _ _ _ _ _ _ record-room w₁ w₂ (fit .numbers p e hp he)
 
         level-back : twos 12 (field t (i₂ + 4 + w) 12) ≡ getD (g .levels) r (pos 0)
-        level-back = ap (twos 12) (record-back (i₂ + 4 + w) 12 (omega arith)) ∙ record-level _ _ _ _ _ _ _ _ record-room (fit .levels p e hp he)
+        level-back = ap (twos 12) (record-back (i₂ + 4 + w) 12 (omega arith)) ∙ record-level _ _ _ _ _ _ _ _ record-room _ refl (fit .levels p e hp he)
 
         count-back : (q : ℕ) → q < n → field t (i₂ + 16 + w + w * q) w ≡ at (g .stamps) (r * n + q)
         count-back q hq =
@@ -209,8 +214,8 @@ module _ (lead w : ℕ) (g : Given) (room : List ℕ) where
 
       -- zero bits
       padding-back : field t end (8 * neededGiven lead w g - end) ≡ 0
-      unfolding packInto neededGiven
-      padding-back = padding-field end (recorded lead w g room) (rw (kept-recorded .long, kept-stationed .long, kept-named .long) (omega (arith, enough)))
+      unfolding ended putEnds neededGiven
+      padding-back = after-ended .beside end _ (inr (le-refl end)) ∙ padding-field end named (rw (kept-named .long) (omega (arith, enough)))
 
       -- the bytes that are filled, and the fields of these
       abbrev b : ℕ

@@ -6,31 +6,28 @@ use lib.ListN.{length, getD, drop}
 use Rattle.cuts.specs.Cut.{at}
 use Rattle.recording.specs.Form.{lead8, width8}
 use Rattle.writer.specs.Write.{Given, recordingGiven, neededGiven, checkedGiven, Wrote, refused, done}
-use Rattle.writer.specs.Tables.{checkedLists}
-use Rattle.writer.specs.Pack.{packInto, Placed, too-short, whole}
-use Rattle.recording.specs.declared.Checked.{Checked}
+use Rattle.writer.specs.Tables.{answerOf, refusalOf}
+use Rattle.writer.specs.Pack.{packInto}
 use Rattle.writer.specs.declared.Written.{Written}
 use Rattle.recording.proofs.CheckLaws.{accepted-not}
-use Rattle.writer.proofs.CheckedGiven.{refused-room, all-accepted}
-use Rattle.writer.proofs.PackRight.{Packed, packs-given}
+use Rattle.writer.proofs.CheckedGiven.{none-accepted}
+use Rattle.writer.proofs.WriterLaws.{answer-refused}
+use Rattle.writer.proofs.PackRight.{packs-given}
 use Rattle.writer.proofs.RoundTrip.{packs-same}
 
 -- the reply where nothing is refused, as the code gives it
-pub wrote-done : (lead w : ℕ) (g : Given) (room after : List ℕ) (b : ℕ) → checkedGiven lead w g (length room) ≡ Checked.Accepted → Packed lead w g room (packInto lead w g room)
-    → after ≡ packInto lead w g room → b ≡ neededGiven lead w g → Wrote lead w g room after (Written.Done b)
-wrote-done lead w g room after b h p ea eb =
+pub wrote-done : (lead w : ℕ) (g : Given) (room after : List ℕ) (v b : ℕ) → 4 ≤ lead → 8 ≤ w → w ≤ 16 → ((i : ℕ) → at (g .counts) i < 256) → ((i : ℕ) → getD room i 0 < 256)
+    → answerOf v ≡ checkedGiven lead w g (length room) → v ≡ 0 → after ≡ packInto lead w g room → b ≡ neededGiven lead w g → Wrote lead w g room after (Written.Done b)
+wrote-done lead w g room after v b leads wide high bytes room-bytes ev fine ea eb =
+    let h = none-accepted lead w g (length room) v ev fine in
+    let p = packs-given lead w g room leads wide high bytes room-bytes h in
     let z : b ≡ length (p .front) = eb ∙ sym (p .just) in
     rw z (done h (p .packs) (ea ∙ p .rest))
 
--- .. and where the lists are accepted, whether the room has the bytes needed or not
-pub wrote-placed : (lead w : ℕ) (g : Given) (room after : List ℕ) (v : Checked) {r : Written} → 4 ≤ lead → 8 ≤ w → w ≤ 16 → ((i : ℕ) → at (g .counts) i < 256)
-    → ((i : ℕ) → getD room i 0 < 256) → v ≡ checkedLists g → v ≡ Checked.Accepted → Placed lead w g room after r → Wrote lead w g room after r
-unfolding neededGiven
-wrote-placed lead w g room after v leads wide high bytes room-bytes ev fine (too-short l e) =
-    refused (refused-room lead w g (length room) v ev fine _ _ _ refl refl refl l) e
-wrote-placed lead w g room after v leads wide high bytes room-bytes ev fine (whole l e) =
-    let accepted = all-accepted lead w g (length room) v ev fine _ _ _ refl refl refl l in
-    wrote-done lead w g room after _ accepted (packs-given lead w g room leads wide high bytes room-bytes accepted) e refl
+-- .. and where something is
+pub wrote-refused : (lead w : ℕ) (g : Given) (room : List ℕ) (v : ℕ) (r : Written) → answerOf v ≡ checkedGiven lead w g (length room) → (v ≡ 0 → ⊥)
+    → r ≡ Written.Refused (refusalOf v) → Wrote lead w g room room r
+wrote-refused lead w g room v r e h er = rw er (refused (sym e ∙ answer-refused v h) refl)
 
 -- two replies that the promise permits are equal, with their rooms
 pub write-unique : (g : Given) (room after after′ : List ℕ) (r r′ : Written) → Wrote lead8 width8 g room after r → Wrote lead8 width8 g room after′ r′ → (r ≡ r′) × (after ≡ after′)

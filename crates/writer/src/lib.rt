@@ -1,20 +1,19 @@
 // The writer: the checks of what was handed in, and the packed recording of document 01 put into a room.
+// A refusal goes through the checks as one number: 8,192 times the station, 16 times the event, and its own number; 0 is none.
 ghost use mathlib.Core.Path.{_≡_};
-ghost use mathlib.Core.List.{_++_};
-ghost use Prim.Native.Nat.{ℕ, suc, _+_, _-_, _*_, _≤_, _<_};
-ghost use lib.Dec.{leb};
-ghost use lib.IntN.{pos};
+ghost use mathlib.Core.List.{List, _++_};
+ghost use Prim.Native.Nat.{ℕ, _+_, _*_, _≤_, _<_};
+ghost use lib.IntN.{ℤ, pos};
 ghost use lib.ListN.{length, getD, drop};
-ghost use Rattle.put.specs.Put.{putOf};
 ghost use Rattle.levels.specs.Level.{isLevel};
 ghost use Rattle.cuts.specs.Below.{every, sumTo, tab};
 ghost use Rattle.cuts.specs.Cut.{at};
 ghost use Rattle.recording.specs.Form.{stationBit, recordBit, bytesFor, lead8, width8};
-ghost use Rattle.writer.specs.Write.{Wrote};
-ghost use Rattle.writer.specs.Tables.{wholeFault, checkedLists, levelFault, givenFault, scanStation, scanGiven, givenCell};
-ghost use Rattle.writer.specs.Pack.{turns, levelBits, putPadding, putCount, putStation, putRecord, stationTurn, recordTurn, Placed};
+ghost use Rattle.recording.specs.Check.{faultOf};
+ghost use Rattle.writer.specs.Write.{givenTests, checkedGiven, Wrote};
+ghost use Rattle.writer.specs.Tables.{codeOf, refusalOf, answerOf, lengthFault, lengthsFault, levelBits, levelFault, givenFault, scannedGiven, givenCell};
+ghost use Rattle.writer.specs.Pack.{turns, putEnds, putCount, putPair, putRecord, stationTurn, recordTurn};
 use levels::Fitted;
-use recording::Checked;
 use recording::Refusal;
 
 // The bytes written, or the refusal.
@@ -41,26 +40,47 @@ pub fn write(
 ) -> Written
     ensures { λ r. ⌜ Wrote lead8 width8 (record { n = n; counts = now (counts .entry); starts = now (starts .entry); origins = now (origins .entry); numbers = now (numbers .entry); levels = now (levels .entry); stamps = now (stamps .entry) }) (now (room .entry)) (now (room .exit)) r ⌝ }
 {
-    let v = check_lists(n as usize, counts, starts, origins, numbers, levels, stamps);
-    if let Checked::Refused(x) = v {
-        return Written::Refused(x);
-    }
-    pack(
-        room,
-        LEAD,
-        WIDTH,
-        n as usize,
+    let stations = n as usize;
+    let v = fault(
+        stations,
         counts,
         starts,
         origins,
         numbers,
         levels,
         stamps,
-    )
+        room.len(),
+    );
+    if v != 0 {
+        return refused(v);
+    }
+    let bytes = put_stations(room, LEAD, WIDTH, stations, origins.len(), counts, starts);
+    put_records(
+        room,
+        LEAD,
+        WIDTH,
+        stations,
+        origins,
+        numbers,
+        levels,
+        stamps,
+    );
+    Written::Done(bytes)
 }
 
-// The checks of the lists, in the written order.
-fn check_lists(
+// The refusal that a number stands for.
+fn refused(v: usize) -> Written
+    ensures { λ r. ⌜ r ≡ Written.Refused (refusalOf v) ⌝ }
+{
+    Written::Refused(Refusal {
+        number: (v % 16) as u8,
+        station: (v / 8192 % 256) as u8,
+        event: (v / 16 % 512) as u16,
+    })
+}
+
+// The first check that fails, in the written order, for a room of so many bytes.
+fn fault(
     n: usize,
     counts: &[u8],
     starts: &[i16],
@@ -68,21 +88,25 @@ fn check_lists(
     numbers: &[u16],
     levels: &[i16],
     stamps: &[u16],
-) -> Checked
-    ensures { λ r. ⌜ r ≡ checkedLists (record { n = n; counts = now (counts .entry); starts = now (starts .entry); origins = now (origins .entry); numbers = now (numbers .entry); levels = now (levels .entry); stamps = now (stamps .entry) }) ⌝ }
+    room: usize,
+) -> usize
+    ensures { λ r. ⌜ answerOf r ≡ checkedGiven lead8 width8 (record { n = n; counts = now (counts .entry); starts = now (starts .entry); origins = now (origins .entry); numbers = now (numbers .entry); levels = now (levels .entry); stamps = now (stamps .entry) }) room ⌝ }
 {
     let k = whole_fault(n, counts, starts, origins, numbers, levels, stamps);
     if k != 0 {
-        return Checked::Refused(whole(k));
+        return k;
     }
-    let m = counts_of(counts);
-    let firsts = firsts_of(counts);
-    let mut rows = [0u16; 32704];
-    lay_given(n, firsts[n], stamps, &mut rows);
-    scan_given(n, m, firsts, &rows, origins, numbers, levels)
+    let v = scan_given(n, counts, origins, numbers, levels, stamps);
+    if v != 0 {
+        return v;
+    }
+    if room < bytes_for(record_bit(LEAD, WIDTH, n, origins.len())) {
+        return 13;
+    }
+    0
 }
 
-// The number of the first test before the records that fails, 0 if none does.
+// The first test before the records that fails.
 fn whole_fault(
     n: usize,
     counts: &[u8],
@@ -91,8 +115,8 @@ fn whole_fault(
     numbers: &[u16],
     levels: &[i16],
     stamps: &[u16],
-) -> u8
-    ensures { λ r. ⌜ r ≡ wholeFault (record { n = n; counts = now (counts .entry); starts = now (starts .entry); origins = now (origins .entry); numbers = now (numbers .entry); levels = now (levels .entry); stamps = now (stamps .entry) }) ⌝ }
+) -> usize
+    ensures { λ r. ⌜ r ≡ faultOf (givenTests (record { n = n; counts = now (counts .entry); starts = now (starts .entry); origins = now (origins .entry); numbers = now (numbers .entry); levels = now (levels .entry); stamps = now (stamps .entry) })) ⌝ }
 {
     if n < 1 {
         return 2;
@@ -101,21 +125,18 @@ fn whole_fault(
         return 2;
     }
     let firsts = firsts_of(counts);
-    let t = firsts[n];
-    let needs = [n, n, t, t, t, t * n];
-    let has = [
+    let k = lengths_fault(
+        n,
+        firsts[n],
         counts.len(),
         starts.len(),
         origins.len(),
         numbers.len(),
         levels.len(),
         stamps.len(),
-    ];
-    if !each_within(needs, has) {
-        return 1;
-    }
-    if !each_within(has, needs) {
-        return 3;
+    );
+    if k != 0 {
+        return k;
     }
     if !are_levels(n, starts) {
         return 14;
@@ -123,18 +144,39 @@ fn whole_fault(
     0
 }
 
-// Whether each of six numbers is at most its fellow.
-fn each_within(a: [usize; 6], b: [usize; 6]) -> bool
-    ensures { λ r. ⌜ r ≡ every 6 (λ i. leb (at a i) (at b i)) ⌝ }
+// 1 if a list is shorter than n stations and t records need, else 3 if one is longer, else 0.
+fn lengths_fault(
+    n: usize,
+    t: usize,
+    counts: usize,
+    starts: usize,
+    origins: usize,
+    numbers: usize,
+    levels: usize,
+    stamps: usize,
+) -> usize
+    requires { ⌜ (n ≤ 8) × (t ≤ 2040) ⌝ }
+    ensures { λ r. ⌜ r ≡ lengthsFault n t counts starts origins numbers levels stamps ⌝ }
 {
-    let mut i: usize = 0;
-    while i < 6 {
-        if b[i] < a[i] {
-            return false;
-        }
-        i += 1;
+    let stations = with_length(with_length(0, n, counts), n, starts);
+    let records = with_length(with_length(stations, t, origins), t, numbers);
+    with_length(with_length(records, t, levels), t * n, stamps)
+}
+
+// The fault of the lists so far, and of one more, which needs to have so many and has so many: 1 if any is shorter, else 3 if any is longer.
+fn with_length(k: usize, needs: usize, has: usize) -> usize
+    ensures { λ r. ⌜ r ≡ lengthFault k needs has ⌝ }
+{
+    if has < needs {
+        return 1;
     }
-    true
+    if k != 0 {
+        return k;
+    }
+    if needs < has {
+        return 3;
+    }
+    0
 }
 
 // Whether the first n numbers are levels.
@@ -143,7 +185,7 @@ fn are_levels(n: usize, starts: &[i16]) -> bool
 {
     let mut p: usize = 0;
     while p < n {
-        if !is_level(level_at(starts, p)) {
+        if 4095 < level_at(starts, p) {
             return false;
         }
         p += 1;
@@ -158,7 +200,7 @@ fn counts_of(counts: &[u8]) -> [u16; 8]
     let mut m = [0u16; 8];
     let mut p: usize = 0;
     while p < 8 {
-        m[p] = count_at(counts, p);
+        m[p] = byte_at(counts, p) as u16;
         p += 1;
     }
     m
@@ -173,10 +215,52 @@ fn firsts_of(counts: &[u8]) -> [usize; 9]
     let mut p: usize = 0;
     while p < 9 {
         f[p] = before;
-        before += wide(count_at(counts, p));
+        before += byte_at(counts, p) as usize;
         p += 1;
     }
     f
+}
+
+// The first refusal among the records, in file order; the lists have what they need.
+fn scan_given(
+    n: usize,
+    counts: &[u8],
+    origins: &[u8],
+    numbers: &[u16],
+    levels: &[i16],
+    stamps: &[u16],
+) -> usize
+    requires { ⌜ (n ≤ 8) × (length (now origins) ≡ sumTo n (at (now counts))) ⌝ }
+    ensures { λ r. ⌜ ((starts : List ℤ) → answerOf r ≡ scannedGiven (record { n = n; counts = now (counts .entry); starts = starts; origins = now (origins .entry); numbers = now (numbers .entry); levels = now (levels .entry); stamps = now (stamps .entry) })) ⌝ }
+{
+    let m = counts_of(counts);
+    let firsts = firsts_of(counts);
+    let total = origins.len();
+    let mut rows = [0u16; 32704];
+    lay_given(n, total, stamps, &mut rows);
+    let mut p: usize = 0;
+    let mut r: usize = 0;
+    while r < total {
+        p = owner(firsts, p, r);
+        let v = given_fault(n, m, firsts, &rows, origins, numbers, levels, p, r);
+        if v != 0 {
+            return v;
+        }
+        r += 1;
+    }
+    0
+}
+
+// The place of the station that record r is of, from place p on.
+fn owner(firsts: [usize; 9], p: usize, r: usize) -> usize
+    requires { ⌜ (p < 8) × (at firsts p ≤ r) × (r < at firsts 8) ⌝ }
+    ensures { λ q. ⌜ (q < 8) × (at firsts q ≤ r) × (r < at firsts (q + 1)) ⌝ }
+{
+    let mut q = p;
+    while firsts[q + 1] <= r {
+        q += 1;
+    }
+    q
 }
 
 // The table of the stamps handed in, into the front of `out`.
@@ -199,66 +283,12 @@ fn given_cell(n: usize, stamps: &[u16], j: usize) -> u16
 {
     let q = j % 8;
     if q < n {
-        return stamp_at(n, stamps, j / 8, q);
+        return number_at(stamps, j / 8 * n + q);
     }
     0
 }
 
-// The first refusal among the records, station by station.
-fn scan_given(
-    n: usize,
-    m: [u16; 8],
-    firsts: [usize; 9],
-    rows: &[u16],
-    origins: &[u8],
-    numbers: &[u16],
-    levels: &[i16],
-) -> Checked
-    requires { ⌜ (n ≤ 8) × (length (now rows) ≤ 32704) × ((q : ℕ) → suc q ≤ n → 8 * (at firsts q + at m q) ≤ length (now rows)) ⌝ }
-    ensures { λ r. ⌜ r ≡ scanGiven n m firsts (now (rows .entry)) (now (origins .entry)) (now (numbers .entry)) (now (levels .entry)) ⌝ }
-{
-    let mut p: usize = 0;
-    while p < n {
-        let v = scan_station(n, m, firsts, rows, origins, numbers, levels, p);
-        if let Checked::Refused(x) = v {
-            return Checked::Refused(x);
-        }
-        p += 1;
-    }
-    Checked::Accepted
-}
-
-// The first refusal among the records of the station at place p.
-fn scan_station(
-    n: usize,
-    m: [u16; 8],
-    firsts: [usize; 9],
-    rows: &[u16],
-    origins: &[u8],
-    numbers: &[u16],
-    levels: &[i16],
-    p: usize,
-) -> Checked
-    requires { ⌜ (n ≤ 8) × (p < n) × (length (now rows) ≤ 32704) × ((q : ℕ) → suc q ≤ n → 8 * (at firsts q + at m q) ≤ length (now rows)) ⌝ }
-    ensures { λ r. ⌜ r ≡ scanStation n m firsts (now (rows .entry)) (now (origins .entry)) (now (numbers .entry)) (now (levels .entry)) p ⌝ }
-{
-    let count = wide(m[p]);
-    let mut e: usize = 0;
-    while e < count {
-        let k = given_fault(n, m, firsts, rows, origins, numbers, levels, p, e);
-        if k != 0 {
-            return Checked::Refused(Refusal {
-                number: k,
-                station: (p + 1) as u8,
-                event: (e + 1) as u16,
-            });
-        }
-        e += 1;
-    }
-    Checked::Accepted
-}
-
-// The number of the first test of event e + 1 of the station at place p that fails, 0 if none does.
+// The first test of record r that fails; it is of the station at place p.
 fn given_fault(
     n: usize,
     m: [u16; 8],
@@ -268,21 +298,21 @@ fn given_fault(
     numbers: &[u16],
     levels: &[i16],
     p: usize,
-    e: usize,
-) -> u8
-    requires { ⌜ (n ≤ 8) × (p < n) × (length (now rows) ≤ 32704) × (8 * (at firsts p + e) + 8 ≤ length (now rows)) ⌝ }
-    ensures { λ r. ⌜ r ≡ givenFault n m firsts (now (rows .entry)) (now (origins .entry)) (now (numbers .entry)) (now (levels .entry)) p e ⌝ }
+    r: usize,
+) -> usize
+    requires { ⌜ (p < 8) × (at firsts p ≤ r) × (r ≤ 4096) ⌝ }
+    ensures { λ v. ⌜ ((e : ℕ) → r ≡ at firsts p + e → v ≡ codeOf p e (givenFault n m firsts (now (rows .entry)) (now (origins .entry)) (now (numbers .entry)) (now (levels .entry)) p e)) ⌝ }
 {
-    let r = firsts[p] + e;
+    let e = r - firsts[p];
     let o = byte_at(origins, r);
-    let k = wide(number_at(numbers, r));
+    let k = number_at(numbers, r) as usize;
     let f = faults::message_fault(n, m, firsts, rows, o, k, p, e);
-    with_level(f, level_at(levels, r))
+    of_record(with_level(f, level_at(levels, r)), p, e)
 }
 
 // 5 and 6 as they are; else 14 where the level is out of range.
-fn with_level(k: u8, level: i16) -> u8
-    ensures { λ r. ⌜ r ≡ levelFault k level ⌝ }
+fn with_level(k: u8, bits: u16) -> u8
+    ensures { λ r. ⌜ r ≡ levelFault k bits ⌝ }
 {
     if k == 5 {
         return k;
@@ -290,64 +320,67 @@ fn with_level(k: u8, level: i16) -> u8
     if k == 6 {
         return k;
     }
-    if is_level(level) {
+    if bits < 4096 {
         return k;
     }
     14
 }
 
-// All that was handed in, field by field, and zero bits up to a whole byte; refused where the room is too short.
-fn pack(
+// The refusal k of event e + 1 of the station at place p, as one number.
+fn of_record(k: u8, p: usize, e: usize) -> usize
+    requires { ⌜ (p < 8) × (e ≤ 4096) ⌝ }
+    ensures { λ r. ⌜ r ≡ codeOf p e k ⌝ }
+{
+    if k == 0 {
+        return 0;
+    }
+    8192 * (p + 1) + 16 * (e + 1) + k as usize
+}
+
+// n, the parts of the n stations, and zero bits behind t records; the bytes that all of it needs.
+fn put_stations(
     room: &mut [u8],
     lead: usize,
     w: usize,
     n: usize,
+    t: usize,
     counts: &[u8],
     starts: &[i16],
-    origins: &[u8],
-    numbers: &[u16],
-    levels: &[i16],
-    stamps: &[u16],
-) -> Written
-    requires { ⌜ (4 ≤ lead) × (lead ≤ 8) × (w ≤ 9) × (n ≤ 8) ⌝ }
-    ensures { λ r. ⌜ Placed lead w (record { n = n; counts = now (counts .entry); starts = now (starts .entry); origins = now (origins .entry); numbers = now (numbers .entry); levels = now (levels .entry); stamps = now (stamps .entry) }) (now (room .entry)) (now (room .exit)) r ⌝ }
+) -> usize
+    requires { ⌜ (4 ≤ lead) × (lead ≤ 8) × (w ≤ 9) × (n ≤ 8) × (t ≤ 4096) ⌝ }
+    ensures { λ r. ⌜ (now (room .exit) ≡ turns (stationTurn lead w (now (counts .entry)) (now (starts .entry))) (putEnds lead w n t (now (room .entry))) n) × (r ≡ bytesFor (recordBit lead w n t)) ⌝ }
 {
-    let firsts = firsts_of(counts);
-    let total = firsts[n];
-    let end = record_bit(lead, w, n, total);
-    let needed = bytes_for(end);
-    if room.len() < needed {
-        return Written::Refused(whole(13));
-    }
-    put_stations(room, lead, w, n, counts, starts);
-    put_records(room, lead, w, n, total, origins, numbers, levels, stamps);
-    put_padding(room, end);
-    Written::Done(needed)
-}
-
-// n, and the parts of the n stations.
-fn put_stations(room: &mut [u8], lead: usize, w: usize, n: usize, counts: &[u8], starts: &[i16])
-    requires { ⌜ (4 ≤ lead) × (lead ≤ 8) × (w ≤ 9) × (n ≤ 8) ⌝ }
-    ensures { λ _. ⌜ now (room .exit) ≡ turns (stationTurn lead w (now (counts .entry)) (now (starts .entry))) (putOf (now (room .entry)) (lead - 4) 4 n) n ⌝ }
-{
-    put::put(room, lead - 4, 4, n as u16);
+    let bytes = put_ends(room, lead, w, n, t);
     let mut p: usize = 0;
     while p < n {
         let i = station_bit(lead, w, p);
-        let m = count_at(counts, p);
-        let start = level_at(starts, p);
-        put_pair(room, w, i, m, start);
+        let m = byte_at(counts, p) as u16;
+        let bits = level_at(starts, p);
+        put_pair(room, w, i, m, bits);
         p += 1;
     }
+    bytes
 }
 
-// A count and a level, from the bit i on: all of a station's part, the middle of a record.
-fn put_pair(room: &mut [u8], w: usize, i: usize, m: u16, level: i16)
+// n in front, and zero bits from the end of t records on, up to a whole byte; the bytes up to there.
+fn put_ends(room: &mut [u8], lead: usize, w: usize, n: usize, t: usize) -> usize
+    requires { ⌜ (4 ≤ lead) × (lead ≤ 8) × (w ≤ 9) × (n ≤ 8) × (t ≤ 4096) ⌝ }
+    ensures { λ r. ⌜ (now (room .exit) ≡ putEnds lead w n t (now (room .entry))) × (r ≡ bytesFor (recordBit lead w n t)) ⌝ }
+{
+    put::put(room, lead - 4, 4, n as u16);
+    let i = record_bit(lead, w, n, t);
+    let bytes = bytes_for(i);
+    put::put(room, i, 8 * bytes - i, 0);
+    bytes
+}
+
+// A count and a level's bits, from the bit i on: all of a station's part, the middle of a record.
+fn put_pair(room: &mut [u8], w: usize, i: usize, m: u16, bits: u16)
     requires { ⌜ (w ≤ 9) × (i ≤ 400004) ⌝ }
-    ensures { λ _. ⌜ now (room .exit) ≡ putStation w i m level (now (room .entry)) ⌝ }
+    ensures { λ _. ⌜ now (room .exit) ≡ putPair w i m bits (now (room .entry)) ⌝ }
 {
     put::put(room, i, w, m);
-    put::put(room, i + w, 12, level_bits(level));
+    put::put(room, i + w, 12, bits);
 }
 
 // The records, in file order.
@@ -356,22 +389,22 @@ fn put_records(
     lead: usize,
     w: usize,
     n: usize,
-    total: usize,
     origins: &[u8],
     numbers: &[u16],
     levels: &[i16],
     stamps: &[u16],
 )
-    requires { ⌜ (lead ≤ 8) × (w ≤ 9) × (n ≤ 8) × (total ≤ 4088) ⌝ }
-    ensures { λ _. ⌜ now (room .exit) ≡ turns (recordTurn lead w n (now (origins .entry)) (now (numbers .entry)) (now (levels .entry)) (now (stamps .entry))) (now (room .entry)) total ⌝ }
+    requires { ⌜ (lead ≤ 8) × (w ≤ 9) × (n ≤ 8) × (length (now origins) ≤ 4096) ⌝ }
+    ensures { λ _. ⌜ now (room .exit) ≡ turns (recordTurn lead w n (now (origins .entry)) (now (numbers .entry)) (now (levels .entry)) (now (stamps .entry))) (now (room .entry)) (length (now (origins .entry))) ⌝ }
 {
+    let total = origins.len();
     let mut r: usize = 0;
     while r < total {
         let i = record_bit(lead, w, n, r);
         let o = byte_at(origins, r);
         let k = number_at(numbers, r);
-        let level = level_at(levels, r);
-        put_record(room, w, i, o, k, level, n, stamps, r);
+        let bits = level_at(levels, r);
+        put_record(room, w, i, o, k, bits, n, stamps, r);
         r += 1;
     }
 }
@@ -383,74 +416,50 @@ fn put_record(
     i: usize,
     o: u8,
     k: u16,
-    level: i16,
+    bits: u16,
     n: usize,
     stamps: &[u16],
     r: usize,
 )
     requires { ⌜ (w ≤ 9) × (i ≤ 400000) × (n ≤ 8) × (r ≤ 4096) ⌝ }
-    ensures { λ _. ⌜ now (room .exit) ≡ putRecord w i o k level (λ q. at (now (stamps .entry)) (r * n + q)) n (now (room .entry)) ⌝ }
+    ensures { λ _. ⌜ now (room .exit) ≡ putRecord w i o k bits (λ q. at (now (stamps .entry)) (r * n + q)) n (now (room .entry)) ⌝ }
 {
     put::put(room, i, 4, o as u16);
-    put_pair(room, w, i + 4, k, level);
-    put_counts(room, w, i + 16 + w, n, stamps, r);
+    put_pair(room, w, i + 4, k, bits);
+    put_counts(room, w, i + 16 + w, n, stamps, r * n);
 }
 
-// The n counts of record r, from the bit i on.
-fn put_counts(room: &mut [u8], w: usize, i: usize, n: usize, stamps: &[u16], r: usize)
-    requires { ⌜ (w ≤ 9) × (i ≤ 400100) × (n ≤ 8) × (r ≤ 4096) ⌝ }
-    ensures { λ _. ⌜ now (room .exit) ≡ turns (putCount w i (λ q. at (now (stamps .entry)) (r * n + q))) (now (room .entry)) n ⌝ }
+// The n counts from number j of the stamps on, from the bit i on.
+fn put_counts(room: &mut [u8], w: usize, i: usize, n: usize, stamps: &[u16], j: usize)
+    requires { ⌜ (w ≤ 9) × (i ≤ 400100) × (n ≤ 8) × (j ≤ 32768) ⌝ }
+    ensures { λ _. ⌜ now (room .exit) ≡ turns (putCount w i (λ q. at (now (stamps .entry)) (j + q))) (now (room .entry)) n ⌝ }
 {
     let mut q: usize = 0;
     while q < n {
-        put::put(room, i + w * q, w, stamp_at(n, stamps, r, q));
+        put::put(room, i + w * q, w, number_at(stamps, j + q));
         q += 1;
     }
 }
 
-// Zero bits from the bit i on, up to a whole byte.
-fn put_padding(room: &mut [u8], i: usize)
-    requires { ⌜ i ≤ 400000 ⌝ }
-    ensures { λ _. ⌜ now (room .exit) ≡ putPadding i (now (room .entry)) ⌝ }
+// The 12 bits of the level at i, 0 past the end; 4,096 for a number that is none.
+fn level_at(s: &[i16], i: usize) -> u16
+    ensures { λ r. ⌜ r ≡ levelBits (getD (now (s .entry)) i (pos 0)) ⌝ }
 {
-    put::put(room, i, 8 * bytes_for(i) - i, 0);
-}
-
-// Whether a number is a level.
-fn is_level(v: i16) -> bool
-    ensures { λ r. ⌜ r ≡ isLevel v ⌝ }
-{
-    let f = levels::field_of(v);
-    match f {
-        Fitted::Field(_) => true,
-        Fitted::Out => false,
+    if i < s.len() {
+        return level_bits(s[i]);
     }
+    0
 }
 
-// A level's 12 bits, 0 for a number that is none.
+// A level's 12 bits, 4,096 for a number that is none.
 fn level_bits(v: i16) -> u16
     ensures { λ r. ⌜ r ≡ levelBits v ⌝ }
 {
     let f = levels::field_of(v);
     match f {
         Fitted::Field(x) => x,
-        Fitted::Out => 0,
+        Fitted::Out => 4096,
     }
-}
-
-// Count q of the stamp of record r, n counts a record.
-fn stamp_at(n: usize, stamps: &[u16], r: usize, q: usize) -> u16
-    requires { ⌜ (n ≤ 8) × (r ≤ 4096) × (q ≤ 8) ⌝ }
-    ensures { λ c. ⌜ c ≡ at (now (stamps .entry)) (r * n + q) ⌝ }
-{
-    number_at(stamps, r * n + q)
-}
-
-// The count of the station at place p, 0 past the end.
-fn count_at(counts: &[u8], p: usize) -> u16
-    ensures { λ r. ⌜ (r ≡ at (now (counts .entry)) p) × (r < 256) ⌝ }
-{
-    byte_at(counts, p) as u16
 }
 
 // The byte at i, 0 past the end.
@@ -466,16 +475,6 @@ fn byte_at(s: &[u8], i: usize) -> u8
 // The number at i, 0 past the end.
 fn number_at(s: &[u16], i: usize) -> u16
     ensures { λ r. ⌜ r ≡ at (now (s .entry)) i ⌝ }
-{
-    if i < s.len() {
-        return s[i];
-    }
-    0
-}
-
-// The signed number at i, 0 past the end.
-fn level_at(s: &[i16], i: usize) -> i16
-    ensures { λ r. ⌜ r ≡ getD (now (s .entry)) i (pos 0) ⌝ }
 {
     if i < s.len() {
         return s[i];
@@ -505,22 +504,4 @@ fn bytes_for(bits: usize) -> usize
     ensures { λ r. ⌜ (r ≡ bytesFor bits) × (r ≤ 50001) ⌝ }
 {
     (bits + 7) / 8
-}
-
-// A number as a usize, with its bound.
-fn wide(x: u16) -> usize
-    ensures { λ r. ⌜ (r ≡ x) × (r < 65536) ⌝ }
-{
-    x as usize
-}
-
-// A refusal that is about no record.
-fn whole(number: u8) -> Refusal
-    ensures { λ r. ⌜ r ≡ record { number = number; station = 0; event = 0 } ⌝ }
-{
-    Refusal {
-        number: number,
-        station: 0,
-        event: 0,
-    }
 }

@@ -19,8 +19,11 @@ abbrev μ-loop : tie.MeasureT-loop
 loop-holds : tie.Need-loop-holds Inv-loop μ-loop
 loop-holds c = (omega arith, tab-none _ _, refl)
 
-count-at-requires : tie.Need-count-at-requires Inv-loop μ-loop
-count-at-requires c κs = tt
+byte-at-requires : tie.Need-byte-at-requires Inv-loop μ-loop
+byte-at-requires c κs = tt
+
+cast-m : tie.Need-cast-m Inv-loop μ-loop
+cast-m c = omega arith
 
 mul-m : tie.Need-mul-m Inv-loop μ-loop
 mul-m c = omega arith
@@ -36,7 +39,7 @@ loop-less c = omega arith
 
 loop-again : tie.Need-loop-again Inv-loop μ-loop
 loop-again c = let L = c .before .before .loop in
-    (omega arith, rw (L .inv .1, c .count-at .ensures .0) (tab-more _ _ _ (omega arith)), L .inv .2)
+    (omega arith, rw (L .inv .1, c .byte-at .ensures) (tab-more _ _ _ (omega arith)), L .inv .2)
 
 returns : tie.Need-returns Inv-loop μ-loop
 returns c = let L = c .before .loop in
@@ -49,7 +52,8 @@ counts-of-spec =
     Inv-loop
     μ-loop
     loop-holds
-    count-at-requires
+    byte-at-requires
+    cast-m
     mul-m
     array-write-m
     add-p

@@ -28,11 +28,11 @@ mul-f c = omega arith
 array-write-f : tie.Need-array-write-f Inv-loop μ-loop
 array-write-f c = omega arith
 
-count-at-requires : tie.Need-count-at-requires Inv-loop μ-loop
-count-at-requires c κs = tt
+byte-at-requires : tie.Need-byte-at-requires Inv-loop μ-loop
+byte-at-requires c κs = tt
 
-wide-requires : tie.Need-wide-requires Inv-loop μ-loop
-wide-requires c κs = tt
+cast-before : tie.Need-cast-before Inv-loop μ-loop
+cast-before c = omega arith
 
 add-before : tie.Need-add-before Inv-loop μ-loop
 add-before c = omega arith
@@ -44,8 +44,8 @@ loop-less : tie.Need-loop-less Inv-loop μ-loop
 loop-less c = omega arith
 
 loop-again : tie.Need-loop-again Inv-loop μ-loop
-loop-again c = let L = c .before .before .before .loop in
-    let counts = c .before .before .before .before .before .args .counts .now in (
+loop-again c = let L = c .before .before .loop in
+    let counts = c .before .before .before .before .args .counts .now in (
       omega arith,
       rw (L .inv .1, L .inv .3) (tab-more (L .p) (λ q. sumTo q (at counts)) _ (omega arith)),
       L .inv .2,
@@ -69,8 +69,8 @@ firsts-of-spec =
     loop-holds
     mul-f
     array-write-f
-    count-at-requires
-    wide-requires
+    byte-at-requires
+    cast-before
     add-before
     add-p
     loop-less

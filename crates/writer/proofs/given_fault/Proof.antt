@@ -1,18 +1,18 @@
 -- The record's origin, number and level stand at its place in file order.
-use mathlib.Core.Path.{_∙_}
+use mathlib.Core.Path.{refl}
 use native.Mathlib.Omega.{arith}
-use Rattle.writer.proofs.WriterLaws.{held-signed, given-fault}
+use Rattle.writer.proofs.WriterLaws.{given-fault}
 use Rattle.writer.proofs.given_fault.Statement.{statement}
 use Rattle.writer.proofs.given_fault.Tie as tie
 
-mul-r : tie.Need-mul-r
-mul-r c = omega arith
+mul-e : tie.Need-mul-e
+mul-e c = omega arith
 
-array-read-r : tie.Need-array-read-r
-array-read-r c = omega arith
+array-read-e : tie.Need-array-read-e
+array-read-e c = omega arith
 
-add-r : tie.Need-add-r
-add-r c = omega arith
+sub-e : tie.Need-sub-e
+sub-e c = omega arith
 
 byte-at-requires : tie.Need-byte-at-requires
 byte-at-requires c κs = tt
@@ -20,8 +20,8 @@ byte-at-requires c κs = tt
 number-at-requires : tie.Need-number-at-requires
 number-at-requires c κs = tt
 
-wide-requires : tie.Need-wide-requires
-wide-requires c κs = tt
+cast-k : tie.Need-cast-k
+cast-k c = omega arith
 
 message-fault-requires : tie.Need-message-fault-requires
 message-fault-requires c κs = tt
@@ -32,24 +32,29 @@ level-at-requires c κs = tt
 with-level-requires : tie.Need-with-level-requires
 with-level-requires c κs = tt
 
+of-record-requires : tie.Need-of-record-requires
+of-record-requires c κs = omega arith
+
 returns : tie.Need-returns
 returns c =
-    let v = c .before in
+    let x = c .before in
+    let v = x .before in
     let f = v .before in
     let k = f .before in
-    given-fault _ _ _ _ _ _ _ _ _ _ _ _ _ _ (k .before .before .byte-at .ensures) (k .wide .ensures .0 ∙ k .before .number-at .ensures) (held-signed _ (v .level-at .ok) ∙ v .level-at .ensures) (f .message-fault .ensures) (c .with-level .ensures)
+    given-fault _ _ _ _ _ _ _ _ _ _ _ _ _ _ _ _ refl (k .before .byte-at .ensures) (k .number-at .ensures) (v .level-at .ensures) (f .message-fault .ensures) (x .with-level .ensures) (c .of-record .ensures)
 
 pub given-fault-spec : {M : Type 1} → statement M
 given-fault-spec =
     tie.close
     (tie.spec
-    mul-r
-    array-read-r
-    add-r
+    mul-e
+    array-read-e
+    sub-e
     byte-at-requires
     number-at-requires
-    wide-requires
+    cast-k
     message-fault-requires
     level-at-requires
     with-level-requires
+    of-record-requires
     returns)

@@ -2,7 +2,7 @@
 use mathlib.Core.Path.{sym, _∙_}
 use native.Mathlib.Omega.{arith}
 use mir.Facts.{toZ-ofZ}
-use Rattle.writer.proofs.WriterLaws.{field-level, out-level}
+use Rattle.writer.proofs.WriterLaws.{field-bits, out-bits}
 use Rattle.writer.proofs.level_bits.Statement.{statement}
 use Rattle.writer.proofs.level_bits.Tie as tie
 
@@ -16,10 +16,10 @@ enum-told : tie.Need-enum-told
 enum-told c = omega arith
 
 returns : tie.Need-returns
-returns c = let a = c .before .before .before in sym (field-level _ _ (sym (rw (toZ-ofZ (a .before .fits .v)) at (a .field-of .ensures)) ∙ c .before .f .given .1) .1)
+returns c = let a = c .before .before .before in sym (field-bits _ _ (sym (rw (toZ-ofZ (a .before .fits .v)) at (a .field-of .ensures)) ∙ c .before .f .given .1))
 
 returns-2 : tie.Need-returns-2
-returns-2 c = let a = c .before .before in sym (out-level _ (sym (rw (toZ-ofZ (a .before .fits .v)) at (a .field-of .ensures)) ∙ c .enum-told .given .1) .1)
+returns-2 c = let a = c .before .before in sym (out-bits _ (sym (rw (toZ-ofZ (a .before .fits .v)) at (a .field-of .ensures)) ∙ c .enum-told .given .1))
 
 pub level-bits-spec : {M : Type 1} → statement M
 level-bits-spec = tie.close (tie.spec field-of-requires enum-known-f enum-told returns returns-2)

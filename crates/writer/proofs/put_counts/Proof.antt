@@ -1,6 +1,6 @@
 -- After q turns the first q counts are put; a turn puts one more.
 use mathlib.Core.Path.{_≡_, refl, _∙_}
-use Prim.Native.Nat.{_+_, _-_, _*_, _≤_}
+use Prim.Native.Nat.{_+_, _-_, _≤_}
 use native.Mathlib.Nat.{le-antisymm}
 use native.Mathlib.Omega.{arith}
 use lib.ListN.{length}
@@ -12,10 +12,10 @@ use Rattle.writer.proofs.put_counts.Statement.{statement}
 use Rattle.writer.proofs.put_counts.Tie as tie
 
 abbrev Inv-loop : tie.InvT-loop
-Inv-loop room₀ w i n stamps r q₀ room q = (q ≤ n) × (length room ≡ length room₀) × (room ≡ turns (putCount w i (λ p. at stamps (r * n + p))) room₀ q)
+Inv-loop room₀ w i n stamps j q₀ room q = (q ≤ n) × (length room ≡ length room₀) × (room ≡ turns (putCount w i (λ p. at stamps (j + p))) room₀ q)
 
 abbrev μ-loop : tie.MeasureT-loop
-μ-loop room₀ w i n stamps r q₀ room q = n - q
+μ-loop room₀ w i n stamps j q₀ room q = n - q
 
 loop-holds : tie.Need-loop-holds Inv-loop μ-loop
 loop-holds c = (omega arith, refl, turns-none _ _)
@@ -30,8 +30,11 @@ add-put c =
     let L = c .before .before in
     omega (arith, counts-le (L .before .before .before .args .w) (L .loop .q) (omega arith) (omega arith))
 
-stamp-at-requires : tie.Need-stamp-at-requires Inv-loop μ-loop
-stamp-at-requires c κs = omega arith
+add-number-at : tie.Need-add-number-at Inv-loop μ-loop
+add-number-at c = omega arith
+
+number-at-requires : tie.Need-number-at-requires Inv-loop μ-loop
+number-at-requires c κs = tt
 
 put-requires : tie.Need-put-requires Inv-loop μ-loop
 put-requires c κs = tt
@@ -46,7 +49,7 @@ loop-again : tie.Need-loop-again Inv-loop μ-loop
 loop-again c =
     let P = c .before .before in
     let L = P .before .before .before .before .loop in
-    (omega arith, P .put .kept .0 ∙ L .inv .1, P .put .ensures .bytes ∙ count-more _ _ _ _ _ _ _ (P .before .stamp-at .ensures) (L .inv .2))
+    (omega arith, P .put .kept .0 ∙ L .inv .1, P .put .ensures .bytes ∙ count-more _ _ _ _ _ _ _ (P .before .number-at .ensures) (L .inv .2))
 
 same-length : tie.Need-same-length Inv-loop μ-loop
 same-length c = c .before .loop .inv .1
@@ -63,7 +66,8 @@ put-counts-spec =
     loop-holds
     mul-put
     add-put
-    stamp-at-requires
+    add-number-at
+    number-at-requires
     put-requires
     add-q
     loop-less

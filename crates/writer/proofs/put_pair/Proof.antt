@@ -1,8 +1,7 @@
 -- Two fields are put, one behind the other.
 use mathlib.Core.Path.{refl, _∙_}
 use native.Mathlib.Omega.{arith}
-use mir.Facts.{toZ-ofZ}
-use Rattle.writer.specs.Pack.{putStation}
+use Rattle.writer.specs.Pack.{putPair}
 use Rattle.writer.proofs.put_pair.Statement.{statement}
 use Rattle.writer.proofs.put_pair.Tie as tie
 
@@ -12,9 +11,6 @@ put-requires c κs = tt
 add-put : tie.Need-add-put
 add-put c = omega arith
 
-level-bits-requires : tie.Need-level-bits-requires
-level-bits-requires c κs = tt
-
 put-requires-2 : tie.Need-put-requires-2
 put-requires-2 c κs = tt
 
@@ -22,13 +18,10 @@ same-length : tie.Need-same-length
 same-length c = omega arith
 
 returns : tie.Need-returns
-unfolding putStation
+unfolding putPair
 returns c =
-    let b = c .before .before .before in
-    let a = b .before .before .before .before in
-    c .before .before .put2 .ensures .bytes ∙ rw (b .level-bits .ensures, toZ-ofZ (a .before .before .before .fits .level), a .put .ensures .bytes) refl
+    let b = c .before .before in
+    b .put2 .ensures .bytes ∙ rw (b .before .before .before .before .put .ensures .bytes) refl
 
 pub put-pair-spec : {M : Type 1} → statement M
-put-pair-spec =
-    tie.close
-    (tie.spec put-requires add-put level-bits-requires put-requires-2 same-length returns)
+put-pair-spec = tie.close (tie.spec put-requires add-put put-requires-2 same-length returns)

@@ -5,17 +5,16 @@ use native.Mathlib.Nat.{le-antisymm}
 use native.Mathlib.Omega.{arith}
 use lib.ListN.{length}
 use Rattle.writer.specs.Pack.{turns, recordTurn}
-use Rattle.writer.proofs.WriterLaws.{held-signed}
 use Rattle.writer.proofs.PackLaws.{turns-none, record-more}
 use Rattle.writer.proofs.put_records.Statement.{statement}
 use Rattle.writer.proofs.put_records.Tie as tie
 
 abbrev Inv-loop : tie.InvT-loop
-Inv-loop room₀ lead w n total origins numbers levels stamps r₀ room r =
-    (r ≤ total) × (length room ≡ length room₀) × (room ≡ turns (recordTurn lead w n origins numbers levels stamps) room₀ r)
+Inv-loop room₀ lead w n origins numbers levels stamps total r₀ room r =
+    (r ≤ length origins) × (length room ≡ length room₀) × (room ≡ turns (recordTurn lead w n origins numbers levels stamps) room₀ r)
 
 abbrev μ-loop : tie.MeasureT-loop
-μ-loop room₀ lead w n total origins numbers levels stamps r₀ room r = total - r
+μ-loop room₀ lead w n origins numbers levels stamps total r₀ room r = length origins - r
 
 loop-holds : tie.Need-loop-holds Inv-loop μ-loop
 loop-holds c = (omega arith, refl, turns-none _ _)
@@ -51,7 +50,7 @@ loop-again c =
       omega arith,
       P .put-record .kept .0 ∙ L .inv .1,
       P .put-record .ensures
-          ∙ record-more _ _ _ _ _ _ _ _ _ _ _ _ _ _ (o .before .record-bit .ensures .0) (o .byte-at .ensures) (k .number-at .ensures) (held-signed _ (v .level-at .ok) ∙ v .level-at .ensures) (L .inv .2),
+          ∙ record-more _ _ _ _ _ _ _ _ _ _ _ _ _ _ (o .before .record-bit .ensures .0) (o .byte-at .ensures) (k .number-at .ensures) (v .level-at .ensures) (L .inv .2),
     )
 
 same-length : tie.Need-same-length Inv-loop μ-loop

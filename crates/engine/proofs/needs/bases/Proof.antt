@@ -27,20 +27,20 @@ mul-b c = omega arith
 array-write-b : tie.Need-array-write-b Inv-loop μ-loop
 array-write-b c = omega arith
 
-mul-wide : tie.Need-mul-wide Inv-loop μ-loop
-mul-wide c = omega arith
+mul-rows : tie.Need-mul-rows Inv-loop μ-loop
+mul-rows c = omega arith
 
-array-read-wide : tie.Need-array-read-wide Inv-loop μ-loop
-array-read-wide c = omega arith
+array-read-rows : tie.Need-array-read-rows Inv-loop μ-loop
+array-read-rows c = omega arith
 
-wide-requires : tie.Need-wide-requires Inv-loop μ-loop
-wide-requires c κs = tt
+cast-rows : tie.Need-cast-rows Inv-loop μ-loop
+cast-rows c = let L = c .before .loop in omega (arith, L .inv .3 (L .p))
 
 add-rows : tie.Need-add-rows Inv-loop μ-loop
-add-rows c = omega arith
+add-rows c = let L = c .before .loop in omega (arith, L .inv .3 (L .p))
 
 add-rows-2 : tie.Need-add-rows-2 Inv-loop μ-loop
-add-rows-2 c = let L = c .before .before .loop in omega (arith, rowsTo-le (c .before .before .before .before .args .full .counts) (L .inv .3) (L .p), L .inv .0, L .inv .1)
+add-rows-2 c = let L = c .before .loop in omega (arith, rowsTo-le (c .before .before .before .args .full .counts) (L .inv .3) (L .p), L .inv .0, L .inv .1, L .inv .3 (L .p))
 
 add-p : tie.Need-add-p Inv-loop μ-loop
 add-p c = omega arith
@@ -50,9 +50,9 @@ loop-less c = omega arith
 
 loop-again : tie.Need-loop-again Inv-loop μ-loop
 loop-again c =
-    let L = c .before .before .loop in (
+    let L = c .before .loop in (
       omega arith,
-      rw (L .inv .1, c .wide .ensures .0) (sym (rowsTo-more _ _)),
+      rw (L .inv .1) (sym (rowsTo-more _ _)),
       rw (L .inv .2, L .inv .1) (tab-more (L .p) _ _ (omega arith)),
       L .inv .3,
     )
@@ -69,9 +69,9 @@ bases-spec =
     loop-holds
     mul-b
     array-write-b
-    mul-wide
-    array-read-wide
-    wide-requires
+    mul-rows
+    array-read-rows
+    cast-rows
     add-rows
     add-rows-2
     add-p

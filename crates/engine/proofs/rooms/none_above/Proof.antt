@@ -1,27 +1,21 @@
--- After p turns none of the first p stations is asked and above n; one that is refutes the whole.
-use mathlib.Core.Path.{_≡_, refl, sym, _∙_}
-use mathlib.Core.Bool.{true, not, _||_}
+-- Up to p no station is asked and above n; one that is refutes the whole.
+use mathlib.Core.Path.{_≡_}
+use mathlib.Core.Bool.{true}
 use Prim.Native.Nat.{_-_, _≤_}
-use native.Mathlib.Nat.{le-antisymm}
+use native.Mathlib.Nat.{le-refl}
 use native.Mathlib.Omega.{arith}
-use lib.Dec.{ltb}
-use borrow.Author.Tests.{not-true, not-false}
-use Rattle.cuts.specs.Below.{every}
-use Rattle.cuts.proofs.BelowLaws.{every-false, every-more}
-use Rattle.condition.specs.Condition.{windowAt}
-use Rattle.engine.specs.Job.{noneAbove}
+use Rattle.engine.proofs.RoomLaws.{unaskedTo, unasked-none, unasked-more, asked-above, unasked-all}
 use Rattle.engine.proofs.rooms.none_above.Statement.{statement}
 use Rattle.engine.proofs.rooms.none_above.Tie as tie
 
 abbrev Inv-loop : tie.InvT-loop
-Inv-loop n c n′ p₀ p = (p ≤ 8) × (every p (λ q. not (windowAt c q .asked) || ltb q n) ≡ true)
+Inv-loop n c p₀ p = (n ≤ p) × (unaskedTo c n p ≡ true)
 
 abbrev μ-loop : tie.MeasureT-loop
-μ-loop n c n′ p₀ p = 8 - p
+μ-loop n c p₀ p = 8 - p
 
 loop-holds : tie.Need-loop-holds Inv-loop μ-loop
-unfolding every
-loop-holds c = (omega arith, refl)
+loop-holds c = (le-refl _, unasked-none _ _)
 
 mul-w : tie.Need-mul-w Inv-loop μ-loop
 mul-w c = omega arith
@@ -29,12 +23,10 @@ mul-w c = omega arith
 element-copy-out-w : tie.Need-element-copy-out-w Inv-loop μ-loop
 element-copy-out-w c = omega arith
 
-unasked-or-below-requires : tie.Need-unasked-or-below-requires Inv-loop μ-loop
-unasked-or-below-requires c κs = tt
-
 returns : tie.Need-returns Inv-loop μ-loop
-unfolding noneAbove
-returns c = sym (every-false _ _ _ (c .before .before .before .loop-test .taken) (sym (c .before .unasked-or-below .ensures) ∙ not-true _ (c .if1 .taken)))
+returns c =
+    let i = c .before .before in
+    asked-above _ _ _ (i .before .loop .inv .0) (i .loop-test .taken) (c .if1 .taken)
 
 add-p : tie.Need-add-p Inv-loop μ-loop
 add-p c = omega arith
@@ -43,11 +35,12 @@ loop-less : tie.Need-loop-less Inv-loop μ-loop
 loop-less c = omega arith
 
 loop-again : tie.Need-loop-again Inv-loop μ-loop
-loop-again c = (omega arith, every-more _ _ (c .before .before .before .before .loop .inv .1) (sym (c .before .unasked-or-below .ensures) ∙ not-false _ (c .if1 .left)))
+loop-again c =
+    let L = c .before .before .before .loop in
+    (omega (arith, L .inv .0), unasked-more _ _ _ (L .inv .1) (c .if1 .left))
 
 returns-2 : tie.Need-returns-2 Inv-loop μ-loop
-unfolding noneAbove
-returns-2 c = sym (rw (le-antisymm (c .before .loop .inv .0) (c .loop-test .left)) at (c .before .loop .inv .1))
+returns-2 c = unasked-all _ _ _ (c .before .loop .inv .1) (c .loop-test .left)
 
 pub none-above-spec : {M : Type 1} → statement M
 none-above-spec =
@@ -58,7 +51,6 @@ none-above-spec =
     loop-holds
     mul-w
     element-copy-out-w
-    unasked-or-below-requires
     returns
     add-p
     loop-less
