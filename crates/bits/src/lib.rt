@@ -54,7 +54,10 @@ impl<'a> BitReader<'a> {
 pub fn peek(s: &[u8], at: usize, k: usize) -> u16
     ensures { λ r. ⌜ r ≡ peeked (now (s .entry)) at k ⌝ }
 {
-    BitReader::new(s, at).look(k)
+    BitReader {
+        bytes: s,
+        taken: at,
+    }.look(k)
 }
 
 // The k bits from bit `at` on, bits past the end being 0; 0 where k is above 16. Three bytes hold them.
