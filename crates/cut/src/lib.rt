@@ -33,7 +33,7 @@ pub enum Ranked {
 }
 
 impl Cut {
-    // The cut one event of the station further on, or that there is none.
+    // The cut one event of the station further on, or that there is none. A number that names no station gets some place too, whose count stays.
     pub fn forward(self, full: Cut, station: u8) -> Moved
         ensures { λ r. ⌜ r ≡ forwardOf full self station ⌝ }
     {
@@ -43,7 +43,7 @@ impl Cut {
         step_to(self, p, x + found as usize, found)
     }
 
-    // The cut one event of the station further back, or that there is none.
+    // The cut one event of the station further back, or that there is none; the place as in `forward`.
     pub fn back(self, full: Cut, station: u8) -> Moved
         ensures { λ r. ⌜ r ≡ backOf full self station ⌝ }
     {
