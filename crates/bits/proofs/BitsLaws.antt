@@ -1,7 +1,7 @@
 -- Laws of fields of bits, at any width. In order: a power of 2; a bit and a field; fields that join and fields of the same bits; whole
 -- bytes; what is looked at; what is taken; two replies. Putting a field is in the crate `put`. Assumes nothing.
 use mathlib.Core.Path.{_≡_, refl, sym, _∙_}
-use mathlib.Core.Bool.{Bool, true, false, _&&_, cond, and-eq-true-iff}
+use mathlib.Core.Bool.{Bool, true, false, _&&_, cond, and-eq-true-iff, false≢true}
 use mathlib.Core.Logic.{_↔_, _⊎_, inl, inr, ⊎-elim}
 use mathlib.Core.List.{List}
 use Prim.Native.Nat.{ℕ, zero, suc, _+_, _-_, _*_, _/_, _%_, _^_, _≤_, _<_, min}
@@ -164,6 +164,26 @@ leftOf-fits s at k h₁ h₂ = omega arith
 pub fits-leftOf : (s : List ℕ) (at k : ℕ) → at + k ≤ min (8 * length s) 0xffff_ffff_ffff_ffff → k ≤ leftOf s at
 unfolding leftOf
 fits-leftOf s at k h = omega arith
+
+-- what is taken, by a test of what is left: the field where it answers yes ..
+pub tested-some : (s : List ℕ) (at k l : ℕ) → l ≡ leftOf s at → (leb 1 k && leb k 16 && leb k l) ≡ true
+    → (1 ≤ k) × (k ≤ 16) × (at + k ≤ min (8 * length s) 0xffff_ffff_ffff_ffff)
+tested-some s at k l e h =
+    let p = and-eq-true-iff (leb 1 k && leb k 16) (leb k l) .0 h in
+    let q = and-eq-true-iff (leb 1 k) (leb k 16) .0 (p .0) in
+    let b : 1 ≤ k = leb-true 1 k (q .0) in
+    (b, leb-true k 16 (q .1), leftOf-fits s at k b (rw e at (leb-true k l (p .1))))
+
+pub tested-field : (s : List ℕ) (at k l v : ℕ) → l ≡ leftOf s at → (leb 1 k && leb k 16 && leb k l) ≡ true → v ≡ peeked s at k
+    → Taken.Field v (at + k) ≡ takenOf s at k
+tested-field s at k l v e h p =
+    let (h₁, h₂, h₃) = tested-some s at k l e h in
+    rw (p, peeked-field s at k h₂) (takenOf-some s at k h₁ h₂ h₃)
+
+-- .. and nothing where no
+pub tested-none : (s : List ℕ) (at k l : ℕ) → l ≡ leftOf s at → (leb 1 k && leb k 16 && leb k l) ≡ false → Taken.Nothing ≡ takenOf s at k
+tested-none s at k l e h =
+    takenOf-none s at k λ h₁ h₂ h₃. false≢true (sym h ∙ rw (le-leb 1 k h₁, le-leb k 16 h₂, le-leb k l (rw (← e) at (fits-leftOf s at k h₃))) refl)
 
 -- Nothing, exactly if k is not 1 to 16, the field does not end within s, or the next place is above the largest usize
 pub take-none : (s : List ℕ) (at k : ℕ)

@@ -54,7 +54,10 @@ impl<'a> BitReader<'a> {
 pub fn peek(s: &[u8], at: usize, k: usize) -> u16
     ensures { λ r. ⌜ r ≡ peeked (now (s .entry)) at k ⌝ }
 {
-    BitReader::new(s, at).look(k)
+    BitReader {
+        bytes: s,
+        taken: at,
+    }.look(k)
 }
 
 // The k bits from bit `at` on, bits past the end being 0; 0 where k is above 16. Three bytes hold them.
@@ -77,16 +80,10 @@ fn peek_at(s: &[u8], at: usize, k: usize) -> u16
 fn take_at(s: &[u8], at: usize, k: usize) -> Taken
     ensures { λ r. ⌜ r ≡ takenOf (now (s .entry)) at k ⌝ }
 {
-    if k < 1 {
-        return Taken::Nothing;
+    if (1 <= k) & (k <= 16) & (k <= left_at(s, at)) {
+        return Taken::Field(peek_at(s, at, k), at + k);
     }
-    if 16 < k {
-        return Taken::Nothing;
-    }
-    if left_at(s, at) < k {
-        return Taken::Nothing;
-    }
-    Taken::Field(peek_at(s, at, k), at + k)
+    Taken::Nothing
 }
 
 // The place after a take: the next one, or the same where nothing was taken.

@@ -1,16 +1,16 @@
--- Laws of a cut as a value. In order: the counts under m; a step that is found; the code's steps; steps on lists;
+-- Laws of a cut as a value. In order: the counts under m; a step that is found; steps on lists;
 -- the eight counts; weights, the box and its ceiling; the rank; the events of the first stations. Assumes nothing.
 use mathlib.Core.Path.{_≡_, refl, sym, ap, ap₂, _∙_}
-use mathlib.Core.Bool.{Bool, true, false, _&&_, cond, false≢true}
+use mathlib.Core.Bool.{Bool, true, false, false≢true}
 use mathlib.Core.Logic.{_↔_, ⊎-elim}
 use mathlib.Core.List.{List, [], _∷_, map}
 use Prim.Native.Nat.{ℕ, zero, suc, _+_, _-_, _*_, _≤_, _<_, min}
 use native.Mathlib.Nat.{mul-le-mul, le-mul-of-pos-right, le-trans, eq-or-lt-of-le, le-of-suc-le-suc, not-suc-le-zero}
-use native.Mathlib.Decide.{decLe, decLt}
+use native.Mathlib.Decide.{decLe}
 use native.Mathlib.Numerals.{add-one}
 use native.Mathlib.Omega.{arith}
 use lib.Arith.{le-zero}
-use lib.Dec.{leb, ltb}
+use lib.Dec.{leb}
 use lib.ListN.{length, take, set, length-map}
 use lib.Seq.{length-take-le, getD-take}
 use mir.Syntax.{w16}
@@ -22,7 +22,7 @@ use borrow.Author.Tests.{leb-true, lt-ltb, le-ltb, le-leb}
 use Rattle.cuts.specs.Below.{sumTo, productTo}
 use Rattle.cuts.specs.Cut.{at, forward, back, total, Within}
 use Rattle.cuts.specs.Rank.{weight, rank, box}
-use Rattle.cut.specs.Value.{countsOf, mostAt, under, isCut, isStation, moved, withCount, nextCount, forwardOf, backOf}
+use Rattle.cut.specs.Value.{countsOf, mostAt, under, moved, withCount, forwardOf, backOf}
 use Rattle.cut.specs.declared.Cut.{Cut}
 use Rattle.cut.specs.declared.Moved.{Moved}
 use Rattle.cut.proofs.Cut.{the-type}
@@ -64,52 +64,6 @@ pub backOf-some : (m c : Cut) (s : ℕ) → backOf m c s .found ≡ true
     → _≡_ {A = Moved} (record { found = true; cut = withCount c (s - 1) (at (c .counts) (s - 1) - 1) }) (backOf m c s)
 unfolding backOf
 backOf-some m c s h = moved-some _ _ c h
-
--- the next count: one further on, one back, and none at the ends
-pub next-on : (t : Bool) (x b : ℕ) → t ≡ true → x < b → x + 1 ≡ nextCount t x b
-unfolding nextCount
-next-on t x b e h = rw (e, lt-ltb x b h) refl
-
-pub next-on-none : (t : Bool) (x b : ℕ) → t ≡ true → b ≤ x → 65536 ≡ nextCount t x b
-unfolding nextCount
-next-on-none t x b e h = rw (e, le-ltb x b h) refl
-
-pub next-back : (t : Bool) (x b : ℕ) → t ≡ false → 1 ≤ x → x - 1 ≡ nextCount t x b
-unfolding nextCount
-next-back t x b e h = rw (e, lt-ltb 0 x h) refl
-
-pub next-back-none : (t : Bool) (x b : ℕ) → t ≡ false → x < 1 → 65536 ≡ nextCount t x b
-unfolding nextCount
-next-back-none t x b e h = rw (e, le-ltb 0 x (omega arith)) refl
-
--- a step from no cut, or at no station
-pub step-none : (m c new : Cut) (s : ℕ) (t : Bool) → (isCut m c && isStation m s) ≡ false
-    → moved false new c ≡ cond t (forwardOf m c s) (backOf m c s)
-unfolding moved forwardOf backOf
-step-none m c new s true h = rw h refl
-step-none m c new s false h = rw h refl
-
-on-some : (m c : Cut) (s a b : ℕ) → (isCut m c && isStation m s) ≡ true → a ≡ at (c .counts) (s - 1) → b ≡ at (m .counts) (s - 1) → b < 65536
-    → Dec (a < b) → moved (ltb (nextCount true a b) 65536) (withCount c (s - 1) (nextCount true a b)) c ≡ forwardOf m c s
-unfolding moved forwardOf
-on-some m c s a b h ea eb l (yes k) =
-    rw (← next-on true a b refl k, lt-ltb (a + 1) 65536 (omega arith), h, ← ea, ← eb, lt-ltb a b k) refl
-on-some m c s a b h ea eb l (no k) =
-    rw (← next-on-none true a b refl (omega arith), h, ← ea, ← eb, le-ltb a b (omega arith)) refl
-
-back-some : (m c : Cut) (s a b : ℕ) → (isCut m c && isStation m s) ≡ true → a ≡ at (c .counts) (s - 1) → a < 65536 → Dec (a < 1)
-    → moved (ltb (nextCount false a b) 65536) (withCount c (s - 1) (nextCount false a b)) c ≡ backOf m c s
-unfolding moved backOf
-back-some m c s a b h ea l (yes k) = rw (← next-back-none false a b refl k, h, ← ea, le-ltb 0 a (omega arith)) refl
-back-some m c s a b h ea l (no k) =
-    rw (← next-back false a b refl (omega arith), lt-ltb (a - 1) 65536 (omega arith), h, ← ea, lt-ltb 0 a (omega arith)) refl
-
--- a step from a cut at a station, where a and b are the counts of the two cuts there
-pub step-some : (m c : Cut) (s a b x : ℕ) (t : Bool) → (isCut m c && isStation m s) ≡ true → (a ≡ at (c .counts) (s - 1)) × (a < 65536)
-    → (b ≡ at (m .counts) (s - 1)) × (b < 65536) → x ≡ nextCount t a b
-    → moved (ltb x 65536) (withCount c (s - 1) x) c ≡ cond t (forwardOf m c s) (backOf m c s)
-step-some m c s a b x true h ha hb e = rw e (on-some m c s a b h (ha .0) (hb .0) (hb .1) (decLt a b))
-step-some m c s a b x false h ha hb e = rw e (back-some m c s a b h (ha .0) (ha .1) (decLt a 1))
 
 pub at-countsOf : (c : Cut) (p : ℕ) → p < c .n → at (countsOf c) p ≡ at (c .counts) p
 at-countsOf c p h = getD-take (c .n) (c .counts) p 0 h

@@ -2,7 +2,7 @@
 -- In order: full cuts and the cuts of a recording; where a step is found; what it hands back; the box; the rank; that two replies are equal; T.
 -- Assumes nothing.
 use mathlib.Core.Path.{_≡_, refl, sym, ap, _∙_}
-use mathlib.Core.Bool.{Bool, true, false, _&&_, not}
+use mathlib.Core.Bool.{true, _&&_}
 use mathlib.Core.Logic.{_↔_}
 use mathlib.Core.List.{List}
 use Prim.Native.Nat.{ℕ, _+_, _-_, _≤_, _<_, min}
@@ -21,7 +21,7 @@ use Rattle.cut.specs.declared.Moved.{Moved}
 use Rattle.cut.specs.declared.Ranked.{Ranked}
 use Rattle.cuts.proofs.BelowLaws.{and-true}
 use Rattle.cut.proofs.ValueLaws.{mostAt-in, mostAt-beyond, under-at, found-moved}
-use Rattle.cuts.proofs.ReplyLaws.{refuted, answered-true, answered-false, replies-equal}
+use Rattle.cuts.proofs.ReplyLaws.{refuted, replies-equal}
 use Rattle.cut.proofs.ValueLaws.{forwardOf-some, backOf-some, at-countsOf, at-set-le, set-forward, set-back, within-take, box-take, rankTo, rank-take, total-take}
 
 -- under in the law's words: no count above its m, none beyond n that is not 0
@@ -81,14 +81,6 @@ isCut-is m c = (reads, tests)
         let u : under m c ≡ true = under-is m c .1 (record { no-above = λ p l k. d .no-above p k; beyond = d .beyond }) in
         simp (isFull-is m .1 (d .full), eq-eqb _ _ (d .same-n), u)
 
--- the cut is one of the recording where a test answered so
-pub cut-answered : {r : Bool} {m c : Cut} → r ≡ isCut m c → not r ≡ false → CutOf m c
-cut-answered e h = isCut-is _ _ .0 (answered-true e h)
-
--- .. and where it answered no it is not
-pub no-cut-answered : {r : Bool} {m c : Cut} → r ≡ isCut m c → not r ≡ true → CutOf m c → ⊥
-no-cut-answered e h d = answered-false e h (isCut-is _ _ .1 d)
-
 -- a cut of the recording and a station of it
 pub station-is : (m c : Cut) (s : ℕ) → ((isCut m c && isStation m s) ≡ true) ↔ (CutOf m c × (1 ≤ s) × (s ≤ m .n))
 unfolding isStation
@@ -102,21 +94,6 @@ station-is m c s = (reads, tests)
 
     tests : CutOf m c × (1 ≤ s) × (s ≤ m .n) → (isCut m c && (leb 1 s && leb s (m .n))) ≡ true
     tests (d, l, k) = simp (isCut-is m c .1 d, le-leb _ _ l, le-leb _ _ k)
-
--- where a test answered so, the station's place is one of the eight
-pub station-place : (m c : Cut) (s : ℕ) {r : Bool} → r ≡ (isCut m c && isStation m s) → not r ≡ false → (1 ≤ s) × (s - 1 < 8)
-station-place m c s e h =
-    let (d, l, k) = station-is m c s .0 (answered-true e h) in
-    (l, omega (arith, d .full .most-eight))
-
--- where the station is one, the cut decides
-pub station-cut : (m c : Cut) (s : ℕ) (r : Bool) → 1 ≤ s → s ≤ m .n → r ≡ isCut m c → r ≡ (isCut m c && isStation m s)
-unfolding isStation
-station-cut m c s r l k e = e ∙ simp (le-leb _ _ l, le-leb _ _ k) (same (isCut m c))
-  where
-    same : (b : Bool) → b ≡ (b && true)
-    same true = refl
-    same false = refl
 
 -- where a step is found: a and b are what the test of the named count compares
 step-found : (m c new : Cut) (s a b : ℕ)

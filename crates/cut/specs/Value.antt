@@ -65,11 +65,6 @@ unfoldable pub moved : Bool → Cut → Cut → Moved
 moved true new old = record { found = true; cut = new }
 moved false new old = record { found = false; cut = old }
 
--- the count one further on than x, or back; 65,536, which is no count, where it would leave 0 to b
-unfoldable pub nextCount : Bool → ℕ → ℕ → ℕ
-nextCount true x b = cond (ltb x b) (x + 1) 65536
-nextCount false x b = cond (ltb 0 x) (x - 1) 65536
-
 -- one event of station s forward: the named count would not leave 0 to m
 unfoldable pub forwardOf : Cut → Cut → ℕ → Moved
 forwardOf m c s =

@@ -1,5 +1,5 @@
 -- The fault of one record, worked out of flat tables. Nothing here has to be believed: `TablesRight` of `recording` proves that it is the first of the
--- record's tests that fails. In order: the origin's kinds; stamps in the table; a local step; a receipt; any record.
+-- record's tests that fails. In order: the origin's kinds, and what they break; stamps in the table; a local step; a receipt; any record.
 use mathlib.Core.Bool.{Bool, _&&_, _||_, cond}
 use mathlib.Core.List.{List}
 use Prim.Native.Nat.{ℕ, zero, suc, _+_, _-_, _*_, _/_, max}
@@ -12,6 +12,16 @@ use Rattle.faults.specs.declared.Source.{Source}
 -- "Origin 0 is a local step, 1 to 8 name a station, 9 to 15 are refused"
 unfoldable pub sourceOf : ℕ → Source
 sourceOf o = cond (eqb o 0) Source.Local (cond (leb o 8) (Source.From o) Source.Unknown)
+
+-- what the kind of the origin or the sender's number k breaks, in a record of the station at place p: 5 or 6, or 0
+unfoldable pub senderFault : ℕ → List ℕ → ℕ → Source → ℕ → ℕ
+senderFault n m p Source.Local k = cond (eqb k 0) 0 6
+senderFault n m p (Source.From o) k = cond (ltb n o || eqb o (p + 1)) 5 (cond (leb 1 k && leb k (at m (o - 1))) 0 6)
+senderFault n m p Source.Unknown k = 5
+
+-- the place of the station that the origin o names, the record's own place p for a local step
+unfoldable pub senderAt : ℕ → ℕ → ℕ
+senderAt o p = cond (eqb o 0) p (o - 1)
 
 -- place q of the stamp of event e of the station whose records begin at `first`; event 0 has zeros
 unfoldable pub placeAt : List ℕ → ℕ → ℕ → ℕ → ℕ

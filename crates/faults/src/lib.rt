@@ -1,9 +1,9 @@
 // The fault of one record, worked out of flat tables: 5 of its origin, 6 of its sender's number, 7 of its stamp, whichever comes first; 0 if it has none.
 ghost use mathlib.Core.Path.{_≡_};
-ghost use Prim.Native.Nat.{_+_, _-_, _*_, _/_, _≤_, _<_, max};
+ghost use Prim.Native.Nat.{_-_, _/_, _≤_, _<_, max};
 ghost use lib.ListN.{length};
-ghost use Rattle.cuts.specs.Below.{own};
-ghost use Rattle.faults.specs.Fault.{sourceOf, placeAt, stampFault, localFault, receiptFault, tableFault};
+ghost use Rattle.faults.specs.Fault.{sourceOf, senderAt, senderFault, placeAt, stampFault, tableFault};
+ghost use Rattle.faults.specs.declared.Source.{Source};
 
 // A record's origin: none, a station, or a number that names none.
 pub enum Source {
@@ -26,16 +26,25 @@ pub fn message_fault(
 ) -> u8
     ensures { λ r. ⌜ r ≡ tableFault n m firsts (now (rows .entry)) o k p e ⌝ }
 {
-    if 8 < n {
+    if (8 < n) | (n <= p) {
         return 7;
     }
-    if n <= p {
-        return 7;
+    let v = sender_fault(n, m, p, o, k);
+    if v != 0 {
+        return v;
     }
+    stamp_fault(n, rows, p, firsts[p], e, firsts[sender_of(o, p)], k)
+}
+
+// What the origin o or the sender's number k breaks: 5 or 6, or 0 if neither breaks anything.
+fn sender_fault(n: usize, m: [u16; 8], p: usize, o: u8, k: usize) -> u8
+    requires { ⌜ p < 8 ⌝ }
+    ensures { λ r. ⌜ r ≡ senderFault n m p (sourceOf o) k ⌝ }
+{
     let source = source_of(o);
     match source {
-        Source::Local => local_fault(n, rows, p, firsts[p], e, k),
-        Source::From(station) => receipt_fault(n, m, firsts, rows, p, e, station as usize, k),
+        Source::Local => 6 * (k != 0) as u8,
+        Source::From(station) => receipt_fault(n, m, p, station as usize, k),
         Source::Unknown => 5,
     }
 }
@@ -52,45 +61,28 @@ fn source_of(o: u8) -> Source
     }
 }
 
-// The fault of a local step with the sender's number k.
-fn local_fault(n: usize, rows: &[u16], p: usize, first: usize, e: usize, k: usize) -> u8
-    requires { ⌜ n ≤ 8 ⌝ }
-    ensures { λ r. ⌜ r ≡ localFault n (now (rows .entry)) p first e k ⌝ }
+// What a receipt from `station`, 1 to 8, with the sender's number k breaks.
+fn receipt_fault(n: usize, m: [u16; 8], p: usize, station: usize, k: usize) -> u8
+    requires { ⌜ (p < 8) × (1 ≤ station) × (station ≤ 8) ⌝ }
+    ensures { λ r. ⌜ r ≡ senderFault n m p (Source.From station) k ⌝ }
 {
-    if k != 0 {
+    if (n < station) | (station == p + 1) {
+        return 5;
+    }
+    if (k < 1) | ((m[station - 1] as usize) < k) {
         return 6;
     }
-    stamp_fault(n, rows, p, first, e, first, 0)
+    0
 }
 
-// The fault of a receipt from `station`, 1 to 8, with the sender's number k.
-fn receipt_fault(
-    n: usize,
-    m: [u16; 8],
-    firsts: [usize; 9],
-    rows: &[u16],
-    p: usize,
-    e: usize,
-    station: usize,
-    k: usize,
-) -> u8
-    requires { ⌜ (n ≤ 8) × (p < n) × (1 ≤ station) × (station ≤ 8) ⌝ }
-    ensures { λ r. ⌜ r ≡ receiptFault n m firsts (now (rows .entry)) p e station k ⌝ }
+// The place of the station that the origin names; for a local step the record's own.
+fn sender_of(o: u8, p: usize) -> usize
+    ensures { λ r. ⌜ r ≡ senderAt o p ⌝ }
 {
-    if n < station {
-        return 5;
+    match o {
+        0 => p,
+        _ => (o - 1) as usize,
     }
-    if station == p + 1 {
-        return 5;
-    }
-    if k < 1 {
-        return 6;
-    }
-    let sender = station - 1;
-    if wide(m[sender]) < k {
-        return 6;
-    }
-    stamp_fault(n, rows, p, firsts[p], e, firsts[sender], k)
 }
 
 // 7 where the stamp of event e + 1 does not follow from the one before it and that of event k of the station whose records begin at `sender`, else 0.
@@ -106,17 +98,14 @@ fn stamp_fault(
     requires { ⌜ n ≤ 8 ⌝ }
     ensures { λ r. ⌜ r ≡ stampFault n (now (rows .entry)) p first e sender k ⌝ }
 {
-    if left(rows, first) <= e {
-        return 7;
-    }
-    if left(rows, sender) < k {
+    if (left(rows, first) <= e) | (left(rows, sender) < k) {
         return 7;
     }
     let mut q: usize = 0;
     while q < n {
         let before = place(rows, first, e, q);
         let sent = place(rows, sender, k, q);
-        if place(rows, first, e + 1, q) != larger(before, sent) + own_place(p, q) {
+        if place(rows, first, e + 1, q) != larger(before, sent) + (p == q) as usize {
             return 7;
         }
         q += 1;
@@ -143,7 +132,7 @@ fn place(rows: &[u16], first: usize, e: usize, q: usize) -> usize
     if e < 1 {
         return 0;
     }
-    wide(rows[8 * (first + (e - 1)) + q])
+    rows[8 * (first + (e - 1)) + q] as usize
 }
 
 // The larger of two counts.
@@ -154,21 +143,4 @@ fn larger(a: usize, b: usize) -> usize
         return b;
     }
     a
-}
-
-// 1 at the station's own place, 0 at every other.
-fn own_place(p: usize, q: usize) -> usize
-    ensures { λ r. ⌜ (r ≡ own p q) × (r ≤ 1) ⌝ }
-{
-    if p == q {
-        return 1;
-    }
-    0
-}
-
-// A number as a usize, with its bound.
-fn wide(x: u16) -> usize
-    ensures { λ r. ⌜ (r ≡ x) × (r < 65536) ⌝ }
-{
-    x as usize
 }

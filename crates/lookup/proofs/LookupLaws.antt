@@ -1,4 +1,4 @@
--- Laws of the lookup: each way through the code is one law. In order: a level's bits read as a signed number; the full cut; event 0; an event with a record;
+-- Laws of the lookup: each way through the code is one law. In order: a station's place; a level's bits read as a signed number; the full cut; event 0; an event with a record;
 -- the answers, and that there is one.
 -- Assumes nothing.
 use mathlib.Core.Path.{_≡_, refl, sym, ap, _∙_}
@@ -35,6 +35,17 @@ use Rattle.recording.proofs.AcceptedRight.{accepted-accepts}
 use Rattle.recording.proofs.FormLaws.{stations-read, count-read, origin-read, number-read, level-read, stamp-read, start-read}
 use Rattle.recording.proofs.PlaceLaws.{peeked-read, firstAt-le, firstAt-lt}
 use Rattle.recording.proofs.DecodeLaws.{eventsAt-in}
+
+-- of a station 1 to n the place is the one that the code reads at
+pub recorded-place : (n s x : ℕ) (m : List ℕ) → n ≤ 8 → (leb 1 s && leb s n && leb x (at m ((s + 7) % 8))) ≡ (leb 1 s && leb s n && leb x (at m (s - 1)))
+recorded-place n s x m l = go (leb 1 s && leb s n) refl
+  where
+    go : (b : Bool) → (leb 1 s && leb s n) ≡ b → (b && leb x (at m ((s + 7) % 8))) ≡ (b && leb x (at m (s - 1)))
+    go true e =
+        let (a, c) = and-true (leb 1 s) (leb s n) e in
+        let p : (s + 7) % 8 ≡ s - 1 = omega (arith, leb-true 1 s a, leb-true s n c) in
+        rw p refl
+    go false e = refl
 
 -- a level's 12 bits as a signed number, which 16 bits hold
 pub level-signed : (f : ℕ) (z : ℤ) → f < 4096 → z ≡ twos 12 (f % 4096) → toZ w16 (ofZ w16 z) ≡ twos 12 f

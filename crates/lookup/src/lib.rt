@@ -46,7 +46,11 @@ pub fn lookup(s: &[u8], station: u8, event: u16) -> Found
             event as usize,
         );
     }
-    not_found(whole(15))
+    not_found(Refusal {
+        number: 15,
+        station: 0,
+        event: 0,
+    })
 }
 
 // Whether the station is 1 to n, and the event 0 to its m.
@@ -54,16 +58,7 @@ fn is_recorded(n: u8, m: [u16; 8], station: u8, event: u16) -> bool
     requires { ⌜ n ≤ 8 ⌝ }
     ensures { λ r. ⌜ r ≡ (leb 1 station && leb station n && leb event (at m (station - 1))) ⌝ }
 {
-    if station < 1 {
-        return false;
-    }
-    if n < station {
-        return false;
-    }
-    if m[(station - 1) as usize] < event {
-        return false;
-    }
-    true
+    (1 <= station) & (station <= n) & (event <= m[(station as usize + 7) % 8])
 }
 
 // The refusal, and zeros beside it.
@@ -76,17 +71,6 @@ fn not_found(x: Refusal) -> Found
         number: 0,
         level: 0,
         stamp: [0u16; 8],
-    }
-}
-
-// A refusal that is about no record.
-fn whole(number: u8) -> Refusal
-    ensures { λ r. ⌜ r ≡ record { number = number; station = 0; event = 0 } ⌝ }
-{
-    Refusal {
-        number: number,
-        station: 0,
-        event: 0,
     }
 }
 
@@ -122,7 +106,7 @@ fn first(m: [u16; 8], p: usize) -> usize
     let mut before: usize = 0;
     let mut q: usize = 0;
     while q < p {
-        before += wide(m[q]);
+        before += m[q] as usize;
         q += 1;
     }
     before
@@ -167,11 +151,4 @@ fn record_bit(lead: usize, w: usize, n: usize, r: usize) -> usize
     ensures { λ b. ⌜ (b ≡ recordBit lead w n r) × (b ≤ 400000) ⌝ }
 {
     station_bit(lead, w, n) + (4 + w + 12 + w * n) * r
-}
-
-// A number as a usize, with its bound.
-fn wide(x: u16) -> usize
-    ensures { λ r. ⌜ (r ≡ x) × (r < 65536) ⌝ }
-{
-    x as usize
 }

@@ -1,74 +1,63 @@
--- Too many stations, or a place beyond them, is a fault; then each kind of origin is one arm.
-use mathlib.Core.Path.{sym, _∙_}
+-- Too many stations, or a place beyond them, is a fault; then what the origin or the number breaks; then the stamp.
 use native.Mathlib.Omega.{arith}
-use Rattle.faults.specs.Fault.{sourceFault}
-use Rattle.faults.specs.declared.Source.{Source}
-use Rattle.faults.proofs.FaultLaws.{sourceOf-is, tableFault-many, tableFault-beyond, tableFault-source}
+use denote.Ref.{now}
+use Rattle.faults.proofs.FaultLaws.{few-stations, tableFault-beyond, sender-small, tableFault-sender, tableFault-stamp}
 use Rattle.faults.proofs.message_fault.Statement.{statement}
 use Rattle.faults.proofs.message_fault.Tie as tie
 
 returns : tie.Need-returns
-returns c = tableFault-many _ _ _ _ _ _ _ _ (c .if1 .taken)
+returns c = tableFault-beyond _ _ _ _ _ _ _ _ (c .if1 .taken)
+
+sender-fault-requires : tie.Need-sender-fault-requires
+sender-fault-requires c κs = omega (arith, few-stations (c .before .before .args .n) (c .before .before .args .p) (c .if1 .left))
 
 returns-2 : tie.Need-returns-2
-returns-2 c = tableFault-beyond _ _ _ _ _ _ _ _ (c .if2 .taken)
+returns-2 c = tableFault-sender _ _ _ _ _ _ _ _ _ (c .before .sender-fault .ensures) (c .before .before .if1 .left) (c .if2 .taken)
 
-source-of-requires : tie.Need-source-of-requires
-source-of-requires c κs = tt
+mul-stamp-fault : tie.Need-mul-stamp-fault
+mul-stamp-fault c =
+    let S = c .before .before .before .before .args in
+    omega (arith, few-stations (S .n) (S .p) (c .before .before .if1 .left))
 
-enum-told : tie.Need-enum-told
-enum-told c = omega arith
+array-read-stamp-fault : tie.Need-array-read-stamp-fault
+array-read-stamp-fault c =
+    let S = c .before .before .before .before .args in
+    omega (arith, few-stations (S .n) (S .p) (c .before .before .if1 .left))
 
-mul-local-fault : tie.Need-mul-local-fault
-mul-local-fault c = omega arith
+sender-of-requires : tie.Need-sender-of-requires
+sender-of-requires c κs = tt
 
-array-read-local-fault : tie.Need-array-read-local-fault
-array-read-local-fault c = omega arith
+mul-stamp-fault-2 : tie.Need-mul-stamp-fault-2
+mul-stamp-fault-2 c =
+    let S = c .before .before .before .before .before .args in
+    omega (arith, sender-small (S .n) (S .m) (S .t3) (now (S .rows)) (S .o) (S .k) (S .p) (S .e) _ (c .before .before .sender-fault .ensures) (c .before .before .before .if1 .left) (c .before .if2 .left))
 
-local-fault-requires : tie.Need-local-fault-requires
-local-fault-requires c κs = omega arith
+array-read-stamp-fault-2 : tie.Need-array-read-stamp-fault-2
+array-read-stamp-fault-2 c =
+    let S = c .before .before .before .before .before .args in
+    omega (arith, sender-small (S .n) (S .m) (S .t3) (now (S .rows)) (S .o) (S .k) (S .p) (S .e) _ (c .before .before .sender-fault .ensures) (c .before .before .before .if1 .left) (c .before .if2 .left))
 
-enum-known-source : tie.Need-enum-known-source
-enum-known-source c = omega arith
-
-cast-receipt-fault : tie.Need-cast-receipt-fault
-cast-receipt-fault c = omega arith
-
-receipt-fault-requires : tie.Need-receipt-fault-requires
-receipt-fault-requires c κs =
-    let (_, l, h) = sourceOf-is _ _ (sym (c .before .source .given .1) ∙ c .before .before .before .source-of .ensures) in
-    (omega arith, omega arith, l, h)
-
-enum-told-2 : tie.Need-enum-told-2
-enum-told-2 c = omega arith
+stamp-fault-requires : tie.Need-stamp-fault-requires
+stamp-fault-requires c κs =
+    let S = c .before .before .before .before .before .args in
+    few-stations (S .n) (S .p) (c .before .before .before .if1 .left) .0
 
 returns-3 : tie.Need-returns-3
-unfolding sourceFault
-returns-3 c = c .local-fault .ensures ∙ tableFault-source _ _ _ _ _ _ _ _ (omega arith) (omega arith) Source.Local (sym (c .before .enum-told .given .1) ∙ c .before .before .before .source-of .ensures)
-
-returns-4 : tie.Need-returns-4
-unfolding sourceFault
-returns-4 c = c .receipt-fault .ensures ∙ tableFault-source _ _ _ _ _ _ _ _ (omega arith) (omega arith) (Source.From _) (sym (c .before .before .source .given .1) ∙ c .before .before .before .before .source-of .ensures)
-
-returns-5 : tie.Need-returns-5
-unfolding sourceFault
-returns-5 c = tableFault-source _ _ _ _ _ _ _ _ (omega arith) (omega arith) Source.Unknown (sym (c .enum-told2 .given .1) ∙ c .before .before .source-of .ensures)
+returns-3 c =
+    tableFault-stamp _ _ _ _ _ _ _ _ _ (c .before .before .before .sender-fault .ensures) (c .before .before .before .before .if1 .left)
+    (c .before .before .if2 .left) _ _ (c .before .sender-of .ensures) (c .stamp-fault .ensures)
 
 pub message-fault-spec : {M : Type 1} → statement M
 message-fault-spec =
     tie.close
     (tie.spec
     returns
+    sender-fault-requires
     returns-2
-    source-of-requires
-    enum-told
-    mul-local-fault
-    array-read-local-fault
-    local-fault-requires
-    enum-known-source
-    cast-receipt-fault
-    receipt-fault-requires
-    enum-told-2
-    returns-3
-    returns-4
-    returns-5)
+    mul-stamp-fault
+    array-read-stamp-fault
+    sender-of-requires
+    mul-stamp-fault-2
+    array-read-stamp-fault-2
+    stamp-fault-requires
+    returns-3)

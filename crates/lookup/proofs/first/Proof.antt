@@ -3,6 +3,10 @@ use mathlib.Core.Path.{_≡_, refl, sym}
 use Prim.Native.Nat.{_-_, _*_, _≤_}
 use native.Mathlib.Nat.{le-antisymm}
 use native.Mathlib.Omega.{arith}
+use lib.ListN.{getD}
+use mir.Syntax.{w16}
+use mir.Val.{Fits}
+use borrow.Author.Needs.{needs}
 use Rattle.cuts.specs.Below.{sumTo}
 use Rattle.cuts.specs.Cut.{at}
 use Rattle.cuts.proofs.BelowLaws.{sumTo-more}
@@ -19,17 +23,19 @@ loop-holds : tie.Need-loop-holds Inv-loop μ-loop
 unfolding sumTo
 loop-holds c = (omega arith, refl, omega arith)
 
-mul-wide : tie.Need-mul-wide Inv-loop μ-loop
-mul-wide c = omega arith
+mul-before : tie.Need-mul-before Inv-loop μ-loop
+mul-before c = omega arith
 
-array-read-wide : tie.Need-array-read-wide Inv-loop μ-loop
-array-read-wide c = omega arith
+array-read-before : tie.Need-array-read-before Inv-loop μ-loop
+array-read-before c = omega arith
 
-wide-requires : tie.Need-wide-requires Inv-loop μ-loop
-wide-requires c κs = tt
+cast-before : tie.Need-cast-before Inv-loop μ-loop
+cast-before c = search needs
 
 add-before : tie.Need-add-before Inv-loop μ-loop
-add-before c = omega arith
+add-before c =
+    let h : Fits w16 (getD (c .before .before .args .t1) (c .before .loop .q) 0) = search needs in
+    omega arith
 
 add-q : tie.Need-add-q Inv-loop μ-loop
 add-q c = omega arith
@@ -38,7 +44,9 @@ loop-less : tie.Need-loop-less Inv-loop μ-loop
 loop-less c = omega arith
 
 loop-again : tie.Need-loop-again Inv-loop μ-loop
-loop-again c = (omega arith, rw (c .before .before .loop .inv .1, c .wide .ensures .0) (sym (sumTo-more _ _)), omega arith)
+loop-again c =
+    let h : Fits w16 (getD (c .before .before .args .t1) (c .before .loop .q) 0) = search needs in
+    (omega arith, rw (c .before .loop .inv .1) (sym (sumTo-more _ _)), omega arith)
 
 returns : tie.Need-returns Inv-loop μ-loop
 returns c = (rw (le-antisymm (c .before .loop .inv .0) (c .loop-test .left)) at (c .before .loop .inv .1), omega arith)
@@ -50,9 +58,9 @@ first-spec =
     Inv-loop
     μ-loop
     loop-holds
-    mul-wide
-    array-read-wide
-    wide-requires
+    mul-before
+    array-read-before
+    cast-before
     add-before
     add-q
     loop-less

@@ -1,7 +1,6 @@
 -- The recording's checks come first; then the station and the event are compared with n and m, which the full cut has, and what they name is found.
-use mathlib.Core.Path.{sym, ap, _∙_}
+use mathlib.Core.Path.{sym, _∙_}
 use native.Mathlib.Omega.{arith}
-use Rattle.lookup.specs.Lookup.{notFound}
 use Rattle.lookup.proofs.LookupLaws.{full-stations, full-counts, full-few, recorded-read, lookupOf-refused, lookup-found, lookup-none}
 use Rattle.lookup.proofs.lookup.Statement.{statement}
 use Rattle.lookup.proofs.lookup.Tie as tie
@@ -58,17 +57,14 @@ returns-2 c =
     let b = F .before in
     c .found-at .ensures ∙ lookup-found _ _ _ _ _ _ (b .before .before .check .ensures) (b .enum-told .given .1) _ (F .full-cut .ensures) _ (c .before .before .before .is-recorded .ensures) (c .before .before .if1 .taken)
 
-whole-requires : tie.Need-whole-requires
-whole-requires c κs = tt
-
 not-found-requires-2 : tie.Need-not-found-requires-2
 not-found-requires-2 c κs = tt
 
 returns-3 : tie.Need-returns-3
 returns-3 c =
-    let F = c .before .before .before .before .before in
+    let F = c .before .before .before .before in
     let b = F .before in
-    c .not-found2 .ensures ∙ ap notFound (c .before .whole .ensures) ∙ lookup-none _ _ _ _ _ _ (b .before .before .check .ensures) (b .enum-told .given .1) _ (F .full-cut .ensures) _ (c .before .before .before .is-recorded .ensures) (c .before .before .if1 .left)
+    c .not-found2 .ensures ∙ lookup-none _ _ _ _ _ _ (b .before .before .check .ensures) (b .enum-told .given .1) _ (F .full-cut .ensures) _ (c .before .before .is-recorded .ensures) (c .before .if1 .left)
 
 pub lookup-spec : {M : Type 1} → statement M
 lookup-spec =
@@ -86,6 +82,5 @@ lookup-spec =
     cast-found-at-2
     found-at-requires
     returns-2
-    whole-requires
     not-found-requires-2
     returns-3)
