@@ -14,7 +14,7 @@ use lib.ListN.{length, take}
 use borrow.Author.Tests.{leb-true, le-leb}
 use Rattle.cuts.specs.Below.{every, firstFrom, first, any, sumTo}
 use Rattle.cuts.specs.Cut.{at, back}
-use Rattle.cuts.proofs.BelowLaws.{and-true, last-or-below, sumTo-first, sumTo-same, every-true, true-every, first-is, first-le}
+use Rattle.cuts.proofs.BelowLaws.{and-true, last-or-below, sumTo-first, sumTo-same, every-true, true-every, every-false, first-is, first-le}
 use Rattle.marks.specs.Rows.{mostTo, NoneTo, NoneFrom}
 
 -- two tests each of which follows from the other
@@ -30,6 +30,20 @@ and-both h g = rw (h, g) refl
 pub every-next : (n : ℕ) (f : ℕ → Bool) (a b : Bool) → a ≡ every n f → b ≡ f n → (a && b) ≡ every (n + 1) f
 unfolding every
 every-next n f a b h e = rw (add-one n, h, e) refl
+
+-- the last test passed, the last test failed, and no test
+pub every-last : (n : ℕ) (f : ℕ → Bool) → 0 < n → f (n - 1) ≡ true → every n f ≡ every (n - 1) f
+unfolding every
+every-last zero f h e = absurd (not-suc-le-zero h)
+every-last (suc n) f h e =
+    let s : suc n - 1 ≡ n = omega arith in
+    tests-same _ _ (λ t. rw s (and-true (every n f) (f n) t .0)) (λ t. and-both (rw s at t) (rw s at e))
+
+pub every-fails : (n : ℕ) (f : ℕ → Bool) → 0 < n → f (n - 1) ≡ false → every n f ≡ false
+every-fails n f h e = every-false n f (n - 1) (omega arith) e
+
+pub every-end : (n : ℕ) (f : ℕ → Bool) → n ≤ 0 → every n f ≡ true
+every-end n f h = true-every n f (λ q l. absurd (omega arith))
 
 -- the first of the tests apart
 pub every-split : (n : ℕ) (f : ℕ → Bool) → 1 ≤ n → every n f ≡ (f 0 && every (n - 1) (λ i. f (i + 1)))

@@ -234,18 +234,18 @@ fn others_of(needs: &[u16], weights: &[u16], bases: &[usize], counts: &[u16], n:
     Others { low: low, sum: sum }
 }
 
-// Whether the row of needs that starts at place from asks no more than the counts.
+// Whether the row of needs that starts at place from asks no more than the counts. From the last station on: a row's last cut has all events of station 1.
 fn row_met(needs: &[u16], from: usize, counts: &[u16], n: usize) -> bool
     requires { ⌜ (n ≤ 8) × (n ≤ length (now counts)) × (from + 8 ≤ length (now needs)) ⌝ }
     ensures { λ r. ⌜ r ≡ rowMet n (now (needs .entry)) from (now (counts .entry)) ⌝ }
 {
-    let mut q: usize = 0;
-    while q < n {
+    let mut q = n;
+    while 0 < q {
+        q -= 1;
         let at = from + q;
         if counts[q] < needs[at] {
             return false;
         }
-        q += 1;
     }
     true
 }

@@ -1,25 +1,25 @@
--- After q turns the first q numbers of the row are no more than the counts; one that is more refutes the whole.
-use mathlib.Core.Path.{_≡_, refl, sym}
-use mathlib.Core.Bool.{true}
-use Prim.Native.Nat.{_-_, _≤_}
-use native.Mathlib.Nat.{le-antisymm}
+-- The numbers from place q on are no more than the counts, so the row is met exactly if its first q numbers are; one that is more refutes the whole.
+use mathlib.Core.Path.{_≡_, refl, sym, _∙_}
+use Prim.Native.Nat.{_≤_}
 use native.Mathlib.Omega.{arith}
 use borrow.Author.Tests.{le-leb, lt-leb}
 use Rattle.cuts.specs.Below.{every}
-use Rattle.cuts.proofs.BelowLaws.{every-false, every-more}
 use Rattle.marks.specs.Flat.{rowMet}
+use Rattle.marks.proofs.SearchLaws.{every-last, every-end, every-fails}
 use Rattle.marks.proofs.row_met.Statement.{statement}
 use Rattle.marks.proofs.row_met.Tie as tie
 
 abbrev Inv-loop : tie.InvT-loop
-Inv-loop needs from counts n q₀ q = (q ≤ n) × (rowMet q needs from counts ≡ true)
+Inv-loop needs from counts n q₀ q = (q ≤ n) × (rowMet n needs from counts ≡ rowMet q needs from counts)
 
 abbrev μ-loop : tie.MeasureT-loop
-μ-loop needs from counts n q₀ q = n - q
+μ-loop needs from counts n q₀ q = q
 
 loop-holds : tie.Need-loop-holds Inv-loop μ-loop
-unfolding rowMet every
 loop-holds c = (omega arith, refl)
+
+sub-q : tie.Need-sub-q Inv-loop μ-loop
+sub-q c = omega arith
 
 add-at : tie.Need-add-at Inv-loop μ-loop
 add-at c = omega arith
@@ -38,10 +38,9 @@ shared-slice-read-if1-2 c = omega arith
 
 returns : tie.Need-returns Inv-loop μ-loop
 unfolding rowMet
-returns c = sym (every-false _ _ _ (c .before .before .before .loop-test .taken) (lt-leb _ _ (c .if1 .taken)))
-
-add-q : tie.Need-add-q Inv-loop μ-loop
-add-q c = omega arith
+returns c =
+    let test = c .before .before .before in
+    sym (test .before .loop .inv .1 ∙ every-fails _ _ (test .loop-test .taken) (lt-leb _ _ (c .if1 .taken)))
 
 loop-less : tie.Need-loop-less Inv-loop μ-loop
 loop-less c = omega arith
@@ -49,13 +48,12 @@ loop-less c = omega arith
 loop-again : tie.Need-loop-again Inv-loop μ-loop
 unfolding rowMet
 loop-again c =
-    let loop = c .before .before .before .before .loop in
-    (omega arith, every-more _ _ (loop .inv .1) (le-leb _ _ (c .if1 .left)))
+    let test = c .before .before .before in
+    (omega arith, test .before .loop .inv .1 ∙ every-last _ _ (test .loop-test .taken) (le-leb _ _ (c .if1 .left)))
 
 returns-2 : tie.Need-returns-2 Inv-loop μ-loop
-returns-2 c =
-    let loop = c .before .loop in
-    sym (rw (le-antisymm (loop .inv .0) (c .loop-test .left)) at (loop .inv .1))
+unfolding rowMet
+returns-2 c = sym (c .before .loop .inv .1 ∙ every-end _ _ (c .loop-test .left))
 
 pub row-met-spec : {M : Type 1} → statement M
 row-met-spec =
@@ -64,13 +62,13 @@ row-met-spec =
     Inv-loop
     μ-loop
     loop-holds
+    sub-q
     add-at
     mul-if1
     shared-slice-read-if1
     mul-if1-2
     shared-slice-read-if1-2
     returns
-    add-q
     loop-less
     loop-again
     returns-2)
