@@ -1,4 +1,5 @@
 // Reads a stream of jobs on standard input, each preceded by its length in two bytes, high first, and prints the reply to each, followed by an empty line.
+#![tactic(auto)]
 ghost use Rattle.std.specs.Prelude.{◌≡◌, ◌++◌, ◌+◌, ◌*◌, ◌≤◌, min, length, take};
 ghost use Rattle.text.specs.Text.{newline};
 ghost use Rattle.reply.specs.Answer.{text_of};

@@ -1,17 +1,18 @@
 // Fields of 1 to 16 bits in a slice of bytes, most significant bit first: a reader looks at them and takes them.
 // A place is a bit's number in the slice, from 0; a slice may have more bits than a usize can count.
+#![tactic(auto)]
 ghost use Rattle.std.specs.Prelude.{◌≡◌, ◌<◌, get_or};
 ghost use Rattle.bits.specs.Bits.{peeked, taken_of, place_after, Takes, left_of};
 
 // What a read finds: the field's value and the next place, or nothing.
-#[derive(Drop)]
+#[derive(Clone, Copy)]
 pub enum Taken {
     Field(u16, usize),
     Nothing,
 }
 
 // The bit reader: the lent bytes, and how many of their bits are already taken.
-#[derive(Drop)]
+#[derive(Clone, Copy)]
 pub struct BitReader<'a> {
     pub bytes: &'a [u8],
     pub taken: usize,

@@ -1,4 +1,5 @@
 // The condition of document 01: read from its 38 bytes, and asked of levels.
+#![tactic(auto)]
 ghost use Rattle.std.specs.Prelude.{◌≡◌, ◌+◌, ◌≤◌, ◌&&◌, nat_le};
 ghost use mir.Val.{bool_byte};
 ghost use Rattle.cuts.specs.Cut.{at};
@@ -9,7 +10,7 @@ ghost use Rattle.condition.specs.Weigh.{weigh_of, asked_of, limits_of};
 mod fields;
 
 // The three kinds, each with its own numbers. Sum's ends are excess numbers, 32,768 above what they stand for.
-#[derive(Drop)]
+#[derive(Clone, Copy)]
 pub enum Kind {
     Together,
     AtLeast(u8),
@@ -17,7 +18,7 @@ pub enum Kind {
 }
 
 // A station's window, whether the station is asked. The ends are excess numbers too.
-#[derive(Drop)]
+#[derive(Clone, Copy)]
 pub struct Window {
     pub asked: bool,
     pub low: u16,
@@ -25,21 +26,21 @@ pub struct Window {
 }
 
 // A condition: its kind, and beside it the eight windows.
-#[derive(Drop)]
+#[derive(Clone, Copy)]
 pub struct Condition {
     pub kind: Kind,
     pub windows: [Window; 8],
 }
 
 // The limits of the sum that decides whether a condition holds, 32,768 above the sum itself.
-#[derive(Drop)]
+#[derive(Clone, Copy)]
 pub struct Limits {
     pub least: usize,
     pub most: usize,
 }
 
 // The condition that was read, or its refusal number (0: none) and a condition with nothing asked.
-#[derive(Drop)]
+#[derive(Clone, Copy)]
 pub struct Reading {
     pub refused: u8,
     pub condition: Condition,

@@ -3,7 +3,7 @@
 use mathlib.Core.Path.{◌≡◌, refl, sym, ap, ap₂, ◌∙◌}
 use mathlib.Core.Bool.{Bool, true, false, false≢true}
 use mathlib.Core.Logic.{◌↔◌, ⊎_elim}
-use mathlib.Core.List.{List, [], ◌∷◌, map}
+use mathlib.Core.List.{List, [], ◌∷◌}
 use Prim.Native.Nat.{ℕ, zero, suc, ◌+◌, ◌-◌, ◌*◌, ◌≤◌, ◌<◌, min}
 use native.Mathlib.Nat.{mul-le-mul, le-mul_of_pos_right, le_trans, eq-or-lt_of_le, le_of_suc-le-suc, not-suc-le-zero}
 use native.Mathlib.Decide.{dec_le}
@@ -11,7 +11,7 @@ use native.Mathlib.Numerals.{add-one}
 use native.Mathlib.Omega.{arith}
 use lib.Arith.{le-zero}
 use lib.Dec.{leb}
-use lib.ListN.{length, take, set, length-map}
+use lib.ListN.{length, take, set}
 use lib.Seq.{length-take-le, get_or-take}
 use mir.Syntax.{w16}
 use mir.Val.{Val}
@@ -98,7 +98,7 @@ within_take (suc n) (y ∷ m) (x ∷ c) h g k =
 
 -- a cut that is passed by value has eight counts
 pub eight_counts : (c : Cut) (vs : List Val) → Is (row the_type) c vs → length c.counts ≡ 8
-eight_counts c vs g = sym (length-map c.counts (λ v. v)) ∙ good_length (e_int w16) 8 (map (λ v. v) c.counts) _ g.1.1.0
+eight_counts c vs g = good_length (e_int w16) 8 c.counts _ g.1.1.0
 
 -- no weight is above the box
 pub weight_le : (l : List ℕ) (p n : ℕ) → p ≤ n → weight l p ≤ weight l n

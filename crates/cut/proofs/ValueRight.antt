@@ -10,7 +10,7 @@ use native.Mathlib.Decide.{dec_lt}
 use native.Mathlib.Omega.{arith}
 use lib.Dec.{leb, ltb, eqb}
 use lib.ListN.{length, set, length-set}
-use lib.Seq.{take-set-lt, get_or-set_other, get_or-set_same, set_set, set-get_or}
+use lib.Seq.{take-set-lt, get_or-set_other, get_or-set_same, set-set, set-get_or}
 use borrow.Author.Tests.{ltb-true, leb-true, eqb-true, lt-ltb, le-leb, eq-eqb}
 use Rattle.cuts.specs.Below.{sum_to}
 use Rattle.cuts.specs.Cut.{at, forward, back, total, Within}
@@ -168,7 +168,7 @@ forward_back_value m c s f e =
     let x : at next.counts p ≡ at c.counts p + 1 = get_or-set_same c.counts p _ 0 (omega (arith, d.full.most_eight)) in
     let y : at c.counts p + 1 - 1 ≡ at c.counts p = omega arith in
     let b : (back_of m next s).found ≡ true = (back_found m next s).1 (n, l, k, omega arith) in
-    rw (← forward_of-some m c s f, ← back_of-some m next s b, x, set_set, y, set-get_or c.counts p 0) refl
+    rw (← forward_of-some m c s f, ← back_of-some m next s b, x, set-set, y, set-get_or c.counts p 0) refl
 
 -- a cut of the recording is one of specs/Cut.antt
 pub within_value : (m c : Cut) → CutOf m c → length c.counts ≡ 8 → length m.counts ≡ 8 → Within (counts_of m) (counts_of c)

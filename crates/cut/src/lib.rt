@@ -1,26 +1,28 @@
 // A cut as a value, its steps, its rank, and the box of a recording. The mathematics stands in specs/ and proofs/.
 // A recording is handed in as its full cut.
+#![tactic(auto)]
+
 ghost use Rattle.std.specs.Prelude.{◌≡◌, ◌&&◌, ◌<◌, min};
 ghost use Rattle.cuts.specs.Cut.{at};
 ghost use Rattle.cut.specs.Value.{is_cut, is_station, with_count, forward_of, back_of, box_of, rank_of, events_of};
 ghost use Rattle.cut.specs.Walk.{Walks};
 
 // One event number for each station; counts beyond n are 0.
-#[derive(Drop)]
+#[derive(Clone, Copy)]
 pub struct Cut {
     pub counts: [u16; 8],
     pub n: u8,
 }
 
 // A step's answer: the new cut, or that there is none, and then the cut given.
-#[derive(Drop)]
+#[derive(Clone, Copy)]
 pub struct Moved {
     pub found: bool,
     pub cut: Cut,
 }
 
 // What one walk over the places of a recording and a cut comes to: the box under its ceiling, or 0 where c is no cut of it; the rank; T.
-#[derive(Drop)]
+#[derive(Clone, Copy)]
 struct Walked {
     size: usize,
     rank: usize,
@@ -28,7 +30,7 @@ struct Walked {
 }
 
 // The rank of a cut, or nothing where it has none.
-#[derive(Drop)]
+#[derive(Clone, Copy)]
 pub enum Ranked {
     At(usize),
     Nothing,

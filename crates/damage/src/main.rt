@@ -1,4 +1,5 @@
 // Damages the recording on standard input in every simple way, and counts the replies of the checks by their number (0: accepted).
+#![tactic(auto)]
 ghost use Rattle.std.specs.Prelude.{◌<◌, length};
 
 use recording::Checked;

@@ -1,4 +1,5 @@
 // The reply to a job: both verdicts with their evidence.
+#![tactic(auto)]
 ghost use Rattle.engine.specs.Job.{Judged};
 
 use cut::Cut;
@@ -11,7 +12,7 @@ mod verdict;
 mod weights;
 
 // The reply: accepted, with Poss and its witness and Def; or the refusal, and nothing beside it.
-#[derive(Drop)]
+#[derive(Clone, Copy)]
 pub struct Reply {
     pub answer: Checked,
     pub poss: bool,

@@ -1,5 +1,6 @@
 // Runs the settled examples of document 01, the whole example among them. They stand on standard input, each a line that names it and a job, and before each
 // of the two its length in two bytes, high first: prints the line, then the text of the reply to the job.
+#![tactic(auto)]
 
 // The longest part that two bytes can announce; a room that has place for any reply's text.
 const PART: usize = 65535;

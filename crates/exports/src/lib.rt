@@ -1,4 +1,5 @@
 // The entry that the benchmark calls from C.
+#![tactic(auto)]
 ghost use Rattle.std.specs.Prelude.{◌≡◌};
 ghost use Rattle.exports.specs.Exports.{verdict_number, JudgeExported};
 

@@ -1,9 +1,10 @@
 // Levels as 12 bits, as excess numbers and as signed numbers.
+#![tactic(auto)]
 ghost use Rattle.std.specs.Prelude.{◌≡◌, ◌%◌, pos, ◌+ℤ◌};
 ghost use Rattle.levels.specs.Level.{twos, field_of, excess_of};
 
 // A level's 12 bits, or that it is out of range.
-#[derive(Drop)]
+#[derive(Clone, Copy)]
 pub enum Fitted {
     Field(u16),
     Out,

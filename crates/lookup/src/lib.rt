@@ -1,4 +1,5 @@
 // The lookup of one record of a packed recording, after the recording's checks.
+#![tactic(auto)]
 ghost use Rattle.std.specs.Prelude.{◌≡◌, ◌&&◌, ◌+◌, ◌-◌, ◌≤◌, ◌<◌, leb};
 ghost use Rattle.cuts.specs.Below.{sum_to, tab};
 ghost use Rattle.cuts.specs.Cut.{at};
@@ -9,7 +10,7 @@ ghost use Rattle.lookup.specs.Lookup.{lookup_of, found_of, not_found, counted};
 use recording::{Checked, Refusal};
 
 // One record, or the refusal, and zeros beside it.
-#[derive(Drop)]
+#[derive(Clone, Copy)]
 pub struct Found {
     pub answer: Checked,
     pub origin: u8,

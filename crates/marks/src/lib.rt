@@ -1,5 +1,6 @@
 // The marks of a box from flat tables, and the verdicts, the witness and the path read off them.
 // A box is filled row by row of station 1: the cuts of a row differ in their first count only, and what the other stations need and add is worked out once a row.
+#![tactic(auto)]
 ghost use Rattle.std.specs.Prelude.{◌≡◌, ◌&&◌, false, not, cond, ◌++◌, ◌+◌, ◌-◌, ◌≤◌, ◌<◌, max, ltb, eqb, length, take, drop, set, replicate};
 ghost use Rattle.cuts.specs.Below.{every, first};
 ghost use Rattle.cuts.specs.Cut.{at, back, total};
@@ -11,7 +12,7 @@ ghost use Rattle.marks.specs.Rows.{cut_with, top_at, strides_of, leads_back, Ste
 use cut::Cut;
 
 // What is settled: whether the box could be, Poss with its witness (the start where Poss is no), and Def.
-#[derive(Drop)]
+#[derive(Clone, Copy)]
 pub struct Settled {
     pub done: bool,
     pub poss: bool,
@@ -20,7 +21,7 @@ pub struct Settled {
 }
 
 // What the rows of a box have in common: the stations, the cuts of a row, where station 1's rows of the tables begin, and from where to where a sum satisfies.
-#[derive(Drop)]
+#[derive(Clone, Copy)]
 struct Frame {
     n: usize,
     width: usize,
@@ -30,7 +31,7 @@ struct Frame {
 }
 
 // What the stations but the first ask of the cuts of a row and add to them: so many events of station 1, more than it can have where a row of theirs is not met.
-#[derive(Drop)]
+#[derive(Clone, Copy)]
 struct Others {
     low: usize,
     sum: usize,

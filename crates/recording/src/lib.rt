@@ -1,4 +1,5 @@
 // The packed recording of document 01: checked, laid out flat.
+#![tactic(auto)]
 ghost use Rattle.std.specs.Prelude.{◌≡◌, ◌&&◌, not, ◌*◌, ◌≤◌, leb};
 ghost use Rattle.recording.specs.Form.{lead8, width8};
 ghost use Rattle.recording.specs.Check.{checked_of};
@@ -11,7 +12,7 @@ mod records;
 use cut::Cut;
 
 // A refusal: its number, with the station and event of the record that it is about, or 0 and 0.
-#[derive(Drop)]
+#[derive(Clone, Copy)]
 pub struct Refusal {
     pub number: u8,
     pub station: u8,
@@ -19,14 +20,14 @@ pub struct Refusal {
 }
 
 // The answer of the checks.
-#[derive(Drop)]
+#[derive(Clone, Copy)]
 pub enum Checked {
     Accepted,
     Refused(Refusal),
 }
 
 // The tables are laid; a room is too short for its table; or the refusal.
-#[derive(Drop)]
+#[derive(Clone, Copy)]
 pub enum Decoded {
     Done,
     Short,

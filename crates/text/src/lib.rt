@@ -1,4 +1,5 @@
 // The printed text of a reply, put into a lent room where it fits: its length first, then its pieces one after the other.
+#![tactic(auto)]
 ghost use Rattle.std.specs.Prelude.{◌≡◌, cond, ◌++◌, ◌+◌, ◌-◌, ◌≤◌, ◌<◌, min, length};
 ghost use Rattle.cut.specs.Value.{counts_of};
 ghost use Rattle.text.specs.Text.{newline, numbers, poss_yes, poss_no, def_yes, def_no, refused_text, def_text, verdict_text, Printed};
@@ -7,7 +8,7 @@ ghost use Rattle.text.specs.Written.{word_of, Measured, number, ended, line, Wri
 use cut::Cut;
 
 // A word that begins a line: the first n of its bytes.
-#[derive(Drop)]
+#[derive(Clone, Copy)]
 struct Word {
     bytes: [u8; 8],
     n: usize,

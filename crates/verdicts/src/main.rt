@@ -1,4 +1,5 @@
 // Reads a job on standard input and prints the reply: both verdicts with their evidence, or the refusal.
+#![tactic(auto)]
 ghost use Rattle.std.specs.Prelude.{◌≡◌, length, take};
 ghost use Rattle.reply.specs.Answer.{text_of};
 ghost use Rattle.io.specs.Counts.{IsPrefixLen};

@@ -1,5 +1,6 @@
 // The writer: the checks of what was handed in, and the packed recording of document 01 put into a room.
 // A refusal goes through the checks as one number: 8,192 times the station, 16 times the event, and its own number; 0 is none.
+#![tactic(auto)]
 ghost use Rattle.std.specs.Prelude.{◌≡◌, List, ◌++◌, ℕ, ◌+◌, ◌*◌, ◌≤◌, ◌<◌, ℤ, pos, length, get_or, drop};
 ghost use Rattle.levels.specs.Level.{is_level};
 ghost use Rattle.cuts.specs.Below.{every, sum_to, tab};
@@ -14,7 +15,7 @@ use levels::Fitted;
 use recording::Refusal;
 
 // The bytes written, or the refusal.
-#[derive(Drop)]
+#[derive(Clone, Copy)]
 pub enum Written {
     Done(usize),
     Refused(Refusal),
