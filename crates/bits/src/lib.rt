@@ -1,6 +1,7 @@
 // Fields of 1 to 16 bits in a slice of bytes, most significant bit first: a reader looks at them and takes them.
 // A place is a bit's number in the slice, from 0; a slice may have more bits than a usize can count.
 #![tactic(auto)]
+
 ghost use Rattle.std.specs.Prelude.{◌≡◌, ◌<◌, get_or};
 ghost use Rattle.bits.specs.Bits.{peeked, taken_of, place_after, Takes, left_of};
 

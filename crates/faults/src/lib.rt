@@ -1,5 +1,6 @@
 // The fault of one record, worked out of flat tables: 5 of its origin, 6 of its sender's number, 7 of its stamp, whichever comes first; 0 if it has none.
 #![tactic(auto)]
+
 ghost use Rattle.std.specs.Prelude.{◌≡◌, ◌-◌, ◌/◌, ◌≤◌, ◌<◌, max, length};
 ghost use Rattle.faults.specs.Fault.{source_of, sender_at, sender_fault, place_at, stamp_fault, table_fault};
 ghost use Rattle.faults.specs.declared.Source.{Source};

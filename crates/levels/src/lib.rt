@@ -1,5 +1,6 @@
 // Levels as 12 bits, as excess numbers and as signed numbers.
 #![tactic(auto)]
+
 ghost use Rattle.std.specs.Prelude.{◌≡◌, ◌%◌, pos, ◌+ℤ◌};
 ghost use Rattle.levels.specs.Level.{twos, field_of, excess_of};
 

@@ -1,5 +1,6 @@
 // The printed text of a reply, put into a lent room where it fits: its length first, then its pieces one after the other.
 #![tactic(auto)]
+
 ghost use Rattle.std.specs.Prelude.{◌≡◌, cond, ◌++◌, ◌+◌, ◌-◌, ◌≤◌, ◌<◌, min, length};
 ghost use Rattle.cut.specs.Value.{counts_of};
 ghost use Rattle.text.specs.Text.{newline, numbers, poss_yes, poss_no, def_yes, def_no, refused_text, def_text, verdict_text, Printed};
