@@ -1,9 +1,13 @@
 // Reads a stream of jobs on standard input, each preceded by its length in two bytes, high first, and prints the reply to each, followed by an empty line.
 #![tactic(auto)]
-ghost use Rattle.std.specs.Prelude.{◌≡◌, ◌++◌, ◌+◌, ◌*◌, ◌≤◌, min, length, take};
+
+ghost use Rattle.std.specs.Prelude.{◌≡◌, ◌++◌, ◌+◌, ◌*◌, ◌<◌, ◌≤◌, min, length, take, IfOk};
+ghost use Rattle.std.specs.Io.{ReadsAtMost};
+ghost use Rattle.std.specs.Io.KnownBytes.{Consumes, IsAtEnd};
 ghost use Rattle.text.specs.Text.{newline};
 ghost use Rattle.reply.specs.Answer.{text_of};
-ghost use Rattle.io.specs.Counts.{IsPrefixLen};
+
+use std::io::{self, Read, Write};
 
 // The longest job that two bytes can announce.
 const ANNOUNCED: usize = 65535;
@@ -14,33 +18,38 @@ const LOOKED_AT: usize = 22500;
 // No reply has a longer text (`text_fits`); and a newline.
 const LONGEST: usize = 4141;
 
-// A proved loop has to end, and nothing says that a stream does: the turns count down from a number that no stream uses up.
-fn main() {
-    let mut turns = u64::MAX;
-    while turns > 0 && answer_next() {
-        turns -= 1;
+// A proved loop has to end, and nothing says that a stream does: the turns count up to a number that no stream uses up.
+fn main(rt: HostRuntime) -> io::Result<()> {
+    let mut input = rt.reader();
+    let mut output = io::writer(&rt);
+    for _ in 0..u64::MAX {
+        if !answer_next(&mut input, &mut output)? {
+            break;
+        }
     }
+    Ok(())
 }
 
-// Reads one job and prints the reply to it; whether there was one, and all of the reply was printed.
+// Reads one job and prints the reply to it; whether there was one.
 // Behind a length that the end of the stream cuts short there is no byte, so its job is an empty one.
-fn answer_next() -> bool {
+fn answer_next<R: Read, W: Write>(input: &mut R, output: &mut W) -> io::Result<bool> {
     let mut head = [0u8; 2];
-    if io::read_full(0, &mut head) == 0 {
-        return false;
+    if reading::read_full(input, &mut head)? == 0 {
+        return Ok(false);
     }
-    answer_job(length_of(head[0], head[1]))
+    answer_job(length_of(head[0], head[1]), input, output)?;
+    Ok(true)
 }
 
 // The same of a job of at most that many bytes.
-fn answer_job(most: usize) -> bool
+fn answer_job<R: Read, W: Write>(most: usize, input: &mut R, output: &mut W) -> io::Result<()>
     requires { most ≤ 65535 }
 {
     let mut job = [0u8; ANNOUNCED];
-    let n = read_job(most, &mut job);
+    let n = read_job(most, input, &mut job)?;
     let mut room = [0u8; LONGEST];
     let k = printed(&job[..n], &mut room);
-    io::write_all(1, &room[..k])
+    output.write_all(&room[..k])
 }
 
 // The length that a job's two bytes say, high first.
@@ -51,18 +60,21 @@ fn length_of(high: u8, low: u8) -> usize
 }
 
 // Reads a job of at most that many bytes into the front of the room; how many bytes there were.
-fn read_job(most: usize, room: &mut [u8]) -> usize
+fn read_job<R: Read>(most: usize, input: &mut R, room: &mut [u8]) -> io::Result<usize>
     requires { most ≤ length room.old }
-    ensures { IsPrefixLen result room.new }
+    ensures prefix_len { ReadsAtMost result room.new }
+    ensures bytes { IfOk result (λ n. Consumes (R.remaining input.old) (R.remaining input.new) (take n room.new)) }
+    ensures most { IfOk result (λ n. n ≤ most) }
+    ensures end { IfOk result (λ n. n < most → IsAtEnd (R.remaining input.new)) }
 {
-    io::read_full(0, &mut room[..most])
+    reading::read_full(input, &mut room[..most])
 }
 
 // The text of the reply to what is looked at of a job and a newline, into the front of a room that always suffices; their length.
 fn printed(job: &[u8], room: &mut [u8]) -> usize
     requires { 4141 ≡ length room.old }
     ensures room_after { take result room.new ≡ text_of (take 22500 job.now) ++ newline }
-    ensures prefix_len { IsPrefixLen result room.new }
+    ensures prefix_len { result ≤ length room.new }
 {
     let k = reply::answer(&job[..looked_at(job.len())], room);
     room[k] = b'\n';

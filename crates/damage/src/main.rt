@@ -1,16 +1,21 @@
 // Damages the recording on standard input in every simple way, and counts the replies of the checks by their number (0: accepted).
 #![tactic(auto)]
+
 ghost use Rattle.std.specs.Prelude.{◌<◌, length};
 
 use recording::Checked;
+use std::io;
 
-fn main() {
-    let mut buf = io::buffer();
-    let n = io::read_full(0, &mut buf);
-    io::write_all(1, b"cut short\n");
-    print_counts(cut_short(&buf[..n]));
-    io::write_all(1, b"one bit flipped\n");
-    print_counts(flipped(&mut buf[..n]));
+// The longest recording that is damaged.
+const MOST: usize = 4096;
+
+fn main(rt: HostRuntime) -> io::Result<()> {
+    let mut buf = [0u8; MOST];
+    let n = reading::read_full(&mut rt.reader(), &mut buf)?;
+    println!(rt; "cut short")?;
+    print_counts(&rt, cut_short(&buf[..n]))?;
+    println!(rt; "one bit flipped")?;
+    print_counts(&rt, flipped(&mut buf[..n]))
 }
 
 // The replies to every proper beginning of s.
@@ -83,20 +88,18 @@ fn counted(counts: [u32; 16], k: usize) -> [u32; 16] {
 }
 
 // A line for each number that occurred: it, and how often.
-fn print_counts(counts: [u32; 16]) {
+fn print_counts<P: Print>(rt: &P, counts: [u32; 16]) -> io::Result<()> {
     let mut k: usize = 0;
     while k < 16 {
-        print_count(k, counts[k]);
+        print_count(rt, k, counts[k])?;
         k += 1;
     }
+    Ok(())
 }
 
-fn print_count(number: usize, count: u32) {
+fn print_count<P: Print>(rt: &P, number: usize, count: u32) -> io::Result<()> {
     if count == 0 {
-        return;
+        return Ok(());
     }
-    io::print_decimal(1, number as u64);
-    io::write_all(1, b" ");
-    io::print_decimal(1, count as u64);
-    io::write_all(1, b"\n");
+    println!(rt; "{number} {count}")
 }

@@ -1,0 +1,25 @@
+// What the programs read their input with.
+#![tactic(auto)]
+
+ghost use Rattle.std.specs.Prelude.{◌<◌, length, take, IfOk};
+ghost use Rattle.std.specs.Io.{ReadsAtMost};
+ghost use Rattle.std.specs.Io.KnownBytes.{Consumes, IsAtEnd};
+
+use std::io::{self, Read};
+
+// Reads until the room is full or the input ends; how many bytes there were. They stand in the front of the room.
+pub fn read_full<R: Read>(input: &mut R, room: &mut [u8]) -> io::Result<usize>
+    ensures prefix_len { ReadsAtMost result room.new }
+    ensures bytes { IfOk result (λ n. Consumes (R.remaining input.old) (R.remaining input.new) (take n room.new)) }
+    ensures end { IfOk result (λ n. n < length room.new → IsAtEnd (R.remaining input.new)) }
+{
+    let mut filled = 0;
+    while filled < room.len() {
+        let n = input.read(&mut room[filled..])?;
+        if n == 0 {
+            break;
+        }
+        filled += n;
+    }
+    Ok(filled)
+}
