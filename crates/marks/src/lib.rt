@@ -323,7 +323,7 @@ fn no_witness(done: bool, n: u8, def: bool) -> Settled
 // The first of the first size ranks that is marked 1, or size.
 fn first_one(marks: &[u8], size: usize) -> usize
     requires { size ≤ length marks.now }
-    ensures* { λ r. ⌜ r ≡ first (λ r. eqb (at marks.now r) 1) size ⌝ }
+    ensures { result ≡ first (λ r. eqb (at marks.now r) 1) size }
 {
     let mut r = passed_over(marks, size);
     while r < size {

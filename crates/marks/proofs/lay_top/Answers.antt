@@ -1,0 +1,82 @@
+use mathlib.Core.Path.{◌≡◌, refl, sym, ◌∙◌}
+use Prim.Native.Nat.{◌+◌}
+use native.Mathlib.Nat.{div-one, mod-lt}
+use native.Mathlib.Omega.{arith}
+use lib.ListN.{length-set}
+use Rattle.cuts.specs.Below.{product_to}
+use Rattle.cuts.specs.Cut.{at}
+use Rattle.cuts.specs.Rank.{weight}
+use Rattle.marks.specs.Rows.{cut_with}
+use Rattle.marks.proofs.RowLaws.{top_one, top_more, top_at-laid}
+use Rattle.marks.proofs.lay_top.Goals as goal
+
+pub bounds-events-0 : goal.bounds-events-0
+bounds-events-0 c = omega arith
+
+pub bounds-counts-0 : goal.bounds-counts-0
+bounds-counts-0 c = omega arith
+
+pub overflow_sub-others : goal.overflow_sub-others
+overflow_sub-others c = c.requires.0.some_station
+
+pub loop-i-init : goal.loop-i-init
+unfolding weight product_to
+loop-i-init c =
+    let room = c.args.counts.now in (
+      omega arith,
+      simp length-set c.requires.2,
+      simp length-set c.requires.2,
+      sym (div-one _),
+      top_one c.args.events.now room c.args.j (omega arith),
+    )
+
+pub overflow_add-p : goal.overflow_add-p
+overflow_add-p c = omega arith
+
+pub offset_bounds-events-p : goal.offset_bounds-events-p
+offset_bounds-events-p c =
+    omega (arith, c.requires.0.most_eight)
+
+pub bounds-events-p : goal.bounds-events-p
+bounds-events-p c =
+    omega (arith, c.requires.0.most_eight)
+
+pub overflow_cast-k : goal.overflow_cast-k
+overflow_cast-k c = omega (arith, c.shared_slice_known-in-loop-i-1.given (c.loop-i.i + 1))
+
+pub overflow_add-k : goal.overflow_add-k
+overflow_add-k c = omega (arith, c.shared_slice_known-in-loop-i-1.given (c.loop-i.i + 1))
+
+pub overflow_cast-counts : goal.overflow_cast-counts
+overflow_cast-counts c = omega (arith, mod-lt c.loop-i.left {m = at c.args.events.now (c.loop-i.i + 1) + 1} (omega arith), c.shared_slice_known-in-loop-i-1.given (c.loop-i.i + 1))
+
+pub offset_bounds-counts-p : goal.offset_bounds-counts-p
+offset_bounds-counts-p c =
+    omega (arith, c.requires.0.most_eight)
+
+pub bounds-counts-p : goal.bounds-counts-p
+bounds-counts-p c =
+    omega (arith, c.requires.0.most_eight)
+
+pub overflow_add-i : goal.overflow_add-i
+overflow_add-i c =
+    omega (arith, c.requires.0.most_eight)
+
+pub loop-i-smaller : goal.loop-i-smaller
+loop-i-smaller c = omega arith
+
+pub loop-i-preserved : goal.loop-i-preserved
+loop-i-preserved c =
+    let loop = c.loop-i in
+    let more =
+    top_more c.args.events.now _ loop.counts c.args.j loop.i loop.left _ loop.invariant.1 (omega (arith, c.requires.0.most_eight)) loop.invariant.3 refl loop.invariant.4 in
+    (omega arith, loop.invariant.1, simp length-set loop.invariant.2, more.0, more.1)
+
+pub shape_of-counts : goal.shape_of-counts
+shape_of-counts c = omega arith
+
+pub returns : goal.returns
+returns c =
+    let loop = c.loop-i in
+    let e : loop.i + 1 ≡ c.args.n = omega (arith, c.requires.0.some_station) in
+    rw e at loop.invariant.4 ∙ top_at-laid (cut_with c.args.n c.args.events.now) c.requires.0 c.requires.1 _ _ _ c.requires.3
