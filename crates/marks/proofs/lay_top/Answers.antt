@@ -42,13 +42,13 @@ bounds-events-p c =
     omega (arith, c.requires.0.most_eight)
 
 pub overflow_cast-k : goal.overflow_cast-k
-overflow_cast-k c = omega (arith, c.shared_slice_known-in-loop-i-1.given (c.loop-i.i + 1))
+overflow_cast-k c = omega (arith, c.type_inv.events (c.loop-i.i + 1))
 
 pub overflow_add-k : goal.overflow_add-k
-overflow_add-k c = omega (arith, c.shared_slice_known-in-loop-i-1.given (c.loop-i.i + 1))
+overflow_add-k c = omega (arith, c.type_inv.events (c.loop-i.i + 1))
 
 pub overflow_cast-counts : goal.overflow_cast-counts
-overflow_cast-counts c = omega (arith, mod-lt c.loop-i.left {m = at c.args.events.now (c.loop-i.i + 1) + 1} (omega arith), c.shared_slice_known-in-loop-i-1.given (c.loop-i.i + 1))
+overflow_cast-counts c = omega (arith, mod-lt c.loop-i.left {m = at c.args.events.now (c.loop-i.i + 1) + 1} (omega arith), c.type_inv.events (c.loop-i.i + 1))
 
 pub offset_bounds-counts-p : goal.offset_bounds-counts-p
 offset_bounds-counts-p c =

@@ -33,11 +33,11 @@ bounds-weights-at c = c.requires.0.weighed
 
 pub overflow_cast-total : goal.overflow_cast-total
 overflow_cast-total c =
-    omega (arith, c.shared_slice_known-6-1.given (c.args.frame.base + c.args.x))
+    omega (arith, c.type_inv.weights (c.args.frame.base + c.args.x))
 
 pub overflow_add-total : goal.overflow_add-total
 overflow_add-total c =
-    omega (arith, c.shared_slice_known-6-1.given (c.args.frame.base + c.args.x))
+    omega (arith, c.type_inv.weights (c.args.frame.base + c.args.x))
 
 pub returns-then-frame-total : goal.returns-then-frame-total
 unfolding between

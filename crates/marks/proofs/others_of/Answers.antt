@@ -24,7 +24,7 @@ bounds-counts-p c =
     omega (arith, c.requires.most, c.requires.eight)
 
 pub overflow_cast-at : goal.overflow_cast-at
-overflow_cast-at c = omega (arith, c.shared_slice_known-in-loop-p-2-1.given c.loop-p.p)
+overflow_cast-at c = omega (arith, c.type_inv.counts c.loop-p.p)
 
 pub overflow_add-at : goal.overflow_add-at
 overflow_add-at c =
@@ -54,7 +54,7 @@ bounds-needs-from c =
 pub overflow_cast-needs : goal.overflow_cast-needs
 overflow_cast-needs c =
     let p = c.loop-p.p in
-    omega (arith, c.shared_slice_known-in-loop-p-3-1.given (8 * (at c.args.bases.now p + at c.args.counts.now p)))
+    omega (arith, c.type_inv.needs (8 * (at c.args.bases.now p + at c.args.counts.now p)))
 
 pub offset_bounds-weights-at : goal.offset_bounds-weights-at
 offset_bounds-weights-at c =
@@ -67,12 +67,12 @@ bounds-weights-at c =
 pub overflow_cast-sum : goal.overflow_cast-sum
 overflow_cast-sum c =
     let p = c.loop-p.p in
-    omega (arith, c.shared_slice_known-in-loop-p-4-1.given (at c.args.bases.now p + at c.args.counts.now p))
+    omega (arith, c.type_inv.weights (at c.args.bases.now p + at c.args.counts.now p))
 
 pub overflow_add-sum : goal.overflow_add-sum
 overflow_add-sum c =
     let loop = c.loop-p in
-    omega (arith, loop.invariant.2.small, c.requires.most, c.shared_slice_known-in-loop-p-4-1.given (at c.args.bases.now loop.p + at c.args.counts.now loop.p))
+    omega (arith, loop.invariant.2.small, c.requires.most, c.type_inv.weights (at c.args.bases.now loop.p + at c.args.counts.now loop.p))
 
 pub overflow_add-p : goal.overflow_add-p
 overflow_add-p c = omega arith
@@ -83,7 +83,7 @@ loop-p-smaller c = omega arith
 pub loop-p-preserved : goal.loop-p-preserved
 loop-p-preserved c =
     let loop = c.loop-p in
-    let light = c.shared_slice_known-in-loop-p-4-1.given (at c.args.bases.now loop.p + at c.args.counts.now loop.p) in
+    let light = c.type_inv.weights (at c.args.bases.now loop.p + at c.args.counts.now loop.p) in
     others_more _ _ _ _ _ _ _ _ loop.invariant.0 _ refl c.loop-p-test.true _ c.row_met.ensures _ _ _ loop.invariant.2 c.if-not-row_met.false refl c.higher-low.ensures refl (omega (arith, light))
 
 pub returns : goal.returns
