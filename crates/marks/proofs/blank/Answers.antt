@@ -8,22 +8,10 @@ use Rattle.marks.proofs.blank.Goals as goal
 pub loop-rank-init : goal.loop-rank-init
 loop-rank-init c = (omega arith, refl, refl)
 
-pub bounds-marks-rank : goal.bounds-marks-rank
-bounds-marks-rank c = omega arith
-
-pub overflow_add-rank : goal.overflow_add-rank
-overflow_add-rank c = omega arith
-
-pub loop-rank-smaller : goal.loop-rank-smaller
-loop-rank-smaller c = omega arith
-
 pub loop-rank-preserved : goal.loop-rank-preserved
 loop-rank-preserved c =
     let loop = c.loop-rank in
     (omega arith, simp length-set loop.invariant.1, rw loop.invariant.2 (zeros_more c.args.marks.now loop.rank (omega arith)))
-
-pub shape_of-marks : goal.shape_of-marks
-shape_of-marks c = omega arith
 
 pub returns : goal.returns
 returns c =

@@ -5,30 +5,9 @@ use Rattle.cuts.specs.Below.{every}
 use Rattle.marks.proofs.SearchLaws.{every_next}
 use Rattle.marks.proofs.covered.Goals as goal
 
-pub overflow_cast-n : goal.overflow_cast-n
-overflow_cast-n c = omega arith
-
 pub loop-p-init : goal.loop-p-init
 unfolding every
 loop-p-init c = (omega arith, c.requires, refl)
-
-pub offset_bounds-bases-p : goal.offset_bounds-bases-p
-offset_bounds-bases-p c = omega arith
-
-pub bounds-bases-p : goal.bounds-bases-p
-bounds-bases-p c = omega arith
-
-pub offset_bounds-events-p : goal.offset_bounds-events-p
-offset_bounds-events-p c = omega arith
-
-pub bounds-events-p : goal.bounds-events-p
-bounds-events-p c = omega arith
-
-pub overflow_add-p : goal.overflow_add-p
-overflow_add-p c = omega arith
-
-pub loop-p-smaller : goal.loop-p-smaller
-loop-p-smaller c = omega arith
 
 pub loop-p-preserved : goal.loop-p-preserved
 loop-p-preserved c =

@@ -9,21 +9,9 @@ use Rattle.marks.specs.Rows.{cut_at}
 use Rattle.marks.proofs.RowLaws.{set-top_at-rank}
 use Rattle.marks.proofs.cut_of.Goals as goal
 
-pub overflow_cast-n : goal.overflow_cast-n
-overflow_cast-n c = omega arith
-
-pub bounds-events-0 : goal.bounds-events-0
-bounds-events-0 c = omega arith
-
-pub overflow_add-width : goal.overflow_add-width
-overflow_add-width c = omega arith
-
 pub slice_bounds-lay_top-end : goal.slice_bounds-lay_top-end
 slice_bounds-lay_top-end c =
     sym (eight_counts c.args.full _ c.well_formed.0)
-
-pub slice_bounds-lay_top-end-2 : goal.slice_bounds-lay_top-end-2
-slice_bounds-lay_top-end-2 c = omega arith
 
 pub lay_top-requires : goal.lay_top-requires
 lay_top-requires c =
@@ -33,9 +21,6 @@ pub overflow_cast-counts : goal.overflow_cast-counts
 overflow_cast-counts c =
     let wide = c.wide-width in
     omega (arith, mod-lt c.args.r {m = wide.result + 1} (omega arith))
-
-pub bounds-counts-0 : goal.bounds-counts-0
-bounds-counts-0 c = omega arith
 
 pub returns : goal.returns
 unfolding cut_at

@@ -15,18 +15,6 @@ pub blank-requires : goal.blank-requires
 blank-requires c =
     le_trans (le_of_eq c.requires.1) c.requires.0.fits
 
-pub overflow_cast-n : goal.overflow_cast-n
-overflow_cast-n c = omega arith
-
-pub bounds-events-0 : goal.bounds-events-0
-bounds-events-0 c = omega arith
-
-pub overflow_add-width : goal.overflow_add-width
-overflow_add-width c = omega arith
-
-pub bounds-bases-0 : goal.bounds-bases-0
-bounds-bases-0 c = omega arith
-
 pub strides_of-strides-requires : goal.strides_of-strides-requires
 strides_of-strides-requires c =
     (c.requires.0.full, c.requires.0.limit)

@@ -11,21 +11,6 @@ loop-left-init c =
     let e : c.args.n - c.args.n ≡ 0 = omega arith in
     (omega arith, rw e (below_none _))
 
-pub overflow_sub-p : goal.overflow_sub-p
-overflow_sub-p c = omega arith
-
-pub offset_bounds-counts-p : goal.offset_bounds-counts-p
-offset_bounds-counts-p c = omega arith
-
-pub bounds-counts-p : goal.bounds-counts-p
-bounds-counts-p c = omega arith
-
-pub offset_bounds-strides-p : goal.offset_bounds-strides-p
-offset_bounds-strides-p c = omega arith
-
-pub bounds-strides-p : goal.bounds-strides-p
-bounds-strides-p c = omega arith
-
 pub leads_back-requires : goal.leads_back-requires
 leads_back-requires c =
     (c.requires.0 _ (omega arith), c.requires.4)
@@ -35,12 +20,6 @@ unfolding leads_back
 returns-then-leads_back c =
     let loop = c.loop-left in
     (sym (first_found _ _ _ (omega arith) loop.invariant.1 (sym c.leads_back.ensures ∙ c.if-leads_back.true)), omega arith)
-
-pub overflow_sub-left : goal.overflow_sub-left
-overflow_sub-left c = omega arith
-
-pub loop-left-smaller : goal.loop-left-smaller
-loop-left-smaller c = omega arith
 
 pub loop-left-preserved : goal.loop-left-preserved
 unfolding leads_back

@@ -6,23 +6,11 @@ use borrow.Author.Tests.{eq-eqb, ne_eqb}
 use Rattle.marks.proofs.SearchLaws.{first_found, first_none}
 use Rattle.marks.proofs.first_one.Goals as goal
 
-pub passed_over-r-requires : goal.passed_over-r-requires
-passed_over-r-requires c = c.requires
-
 pub loop-r-init : goal.loop-r-init
 loop-r-init c = c.passed_over-r.ensures
 
-pub bounds-marks-r : goal.bounds-marks-r
-bounds-marks-r c = omega arith
-
 pub returns-then-marks-r-eq1 : goal.returns-then-marks-r-eq1
 returns-then-marks-r-eq1 c = sym (first_found _ _ _ (omega arith) c.loop-r.invariant.1 (eq-eqb _ _ c.if-marks-r-eq1.true))
-
-pub overflow_add-r : goal.overflow_add-r
-overflow_add-r c = omega arith
-
-pub loop-r-smaller : goal.loop-r-smaller
-loop-r-smaller c = omega arith
 
 pub loop-r-preserved : goal.loop-r-preserved
 loop-r-preserved c =

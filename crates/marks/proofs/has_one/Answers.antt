@@ -10,18 +10,6 @@ use Rattle.marks.proofs.has_one.Goals.{then-marks-rank-eq1, else-marks-rank-eq1}
 pub loop-x-init : goal.loop-x-init
 loop-x-init c = (omega arith, λ e. below_none _)
 
-pub overflow_add-rank : goal.overflow_add-rank
-overflow_add-rank c = omega arith
-
-pub bounds-marks-rank : goal.bounds-marks-rank
-bounds-marks-rank c = omega arith
-
-pub overflow_add-x : goal.overflow_add-x
-overflow_add-x c = omega arith
-
-pub loop-x-smaller : goal.loop-x-smaller
-loop-x-smaller c = omega arith
-
 pub loop-x-preserved : goal.loop-x-preserved
 loop-x-preserved c =
     let loop = c.loop-x in

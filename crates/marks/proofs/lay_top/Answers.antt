@@ -10,12 +10,6 @@ use Rattle.marks.specs.Rows.{cut_with}
 use Rattle.marks.proofs.RowLaws.{top_one, top_more, top_at-laid}
 use Rattle.marks.proofs.lay_top.Goals as goal
 
-pub bounds-events-0 : goal.bounds-events-0
-bounds-events-0 c = omega arith
-
-pub bounds-counts-0 : goal.bounds-counts-0
-bounds-counts-0 c = omega arith
-
 pub overflow_sub-others : goal.overflow_sub-others
 overflow_sub-others c = c.requires.0.some_station
 
@@ -29,9 +23,6 @@ loop-i-init c =
       sym (div-one _),
       top_one c.args.events.now room c.args.j (omega arith),
     )
-
-pub overflow_add-p : goal.overflow_add-p
-overflow_add-p c = omega arith
 
 pub offset_bounds-events-p : goal.offset_bounds-events-p
 offset_bounds-events-p c =
@@ -62,18 +53,12 @@ pub overflow_add-i : goal.overflow_add-i
 overflow_add-i c =
     omega (arith, c.requires.0.most_eight)
 
-pub loop-i-smaller : goal.loop-i-smaller
-loop-i-smaller c = omega arith
-
 pub loop-i-preserved : goal.loop-i-preserved
 loop-i-preserved c =
     let loop = c.loop-i in
     let more =
     top_more c.args.events.now _ loop.counts c.args.j loop.i loop.left _ loop.invariant.1 (omega (arith, c.requires.0.most_eight)) loop.invariant.3 refl loop.invariant.4 in
     (omega arith, loop.invariant.1, simp length-set loop.invariant.2, more.0, more.1)
-
-pub shape_of-counts : goal.shape_of-counts
-shape_of-counts c = omega arith
 
 pub returns : goal.returns
 returns c =

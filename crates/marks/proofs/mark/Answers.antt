@@ -11,12 +11,6 @@ use Rattle.marks.specs.Flat.{between}
 use Rattle.marks.proofs.MarkLaws.{mark_unmet, mark_holds, mark_rest, mark_small}
 use Rattle.marks.proofs.mark.Goals as goal
 
-pub overflow_add-at : goal.overflow_add-at
-overflow_add-at c = omega arith
-
-pub overflow_mul-at : goal.overflow_mul-at
-overflow_mul-at c = omega arith
-
 pub row_met-requires : goal.row_met-requires
 row_met-requires c =
     let ready = c.requires.0 in
@@ -24,9 +18,6 @@ row_met-requires c =
 
 pub returns-then-not-row_met : goal.returns-then-not-row_met
 returns-then-not-row_met c = mark_unmet _ _ _ _ _ _ _ _ _ (sym c.row_met.ensures ∙ c.if-not-row_met.true)
-
-pub offset_bounds-weights-at : goal.offset_bounds-weights-at
-offset_bounds-weights-at c = omega arith
 
 pub bounds-weights-at : goal.bounds-weights-at
 bounds-weights-at c = c.requires.0.weighed

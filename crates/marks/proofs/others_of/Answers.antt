@@ -9,15 +9,9 @@ pub loop-p-init : goal.loop-p-init
 loop-p-init c =
     (omega arith, c.requires.some, others_start _ _ _ _ _)
 
-pub offset_bounds-bases-p : goal.offset_bounds-bases-p
-offset_bounds-bases-p c = omega arith
-
 pub bounds-bases-p : goal.bounds-bases-p
 bounds-bases-p c =
     omega (arith, c.requires.most, c.requires.starts)
-
-pub offset_bounds-counts-p : goal.offset_bounds-counts-p
-offset_bounds-counts-p c = omega arith
 
 pub bounds-counts-p : goal.bounds-counts-p
 bounds-counts-p c =
@@ -73,12 +67,6 @@ pub overflow_add-sum : goal.overflow_add-sum
 overflow_add-sum c =
     let loop = c.loop-p in
     omega (arith, loop.invariant.2.small, c.requires.most, c.type_inv.weights (at c.args.bases.now loop.p + at c.args.counts.now loop.p))
-
-pub overflow_add-p : goal.overflow_add-p
-overflow_add-p c = omega arith
-
-pub loop-p-smaller : goal.loop-p-smaller
-loop-p-smaller c = omega arith
 
 pub loop-p-preserved : goal.loop-p-preserved
 loop-p-preserved c =

@@ -6,20 +6,8 @@ use Rattle.marks.proofs.passed_over.Goals as goal
 pub loop-r-init : goal.loop-r-init
 loop-r-init c = (omega arith, below_none _)
 
-pub overflow_sub-size : goal.overflow_sub-size
-overflow_sub-size c = omega arith
-
-pub has_one-requires : goal.has_one-requires
-has_one-requires c = omega arith
-
 pub returns-then-has_one : goal.returns-then-has_one
 returns-then-has_one c = c.loop-r.invariant
-
-pub overflow_add-r : goal.overflow_add-r
-overflow_add-r c = omega arith
-
-pub loop-r-smaller : goal.loop-r-smaller
-loop-r-smaller c = omega arith
 
 pub loop-r-preserved : goal.loop-r-preserved
 loop-r-preserved c =

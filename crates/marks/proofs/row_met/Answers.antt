@@ -8,31 +8,10 @@ use Rattle.marks.proofs.row_met.Goals as goal
 pub loop-q-init : goal.loop-q-init
 loop-q-init c = (omega arith, refl)
 
-pub overflow_sub-q : goal.overflow_sub-q
-overflow_sub-q c = omega arith
-
-pub overflow_add-at : goal.overflow_add-at
-overflow_add-at c = omega arith
-
-pub offset_bounds-counts-q : goal.offset_bounds-counts-q
-offset_bounds-counts-q c = omega arith
-
-pub bounds-counts-q : goal.bounds-counts-q
-bounds-counts-q c = omega arith
-
-pub offset_bounds-needs-at : goal.offset_bounds-needs-at
-offset_bounds-needs-at c = omega arith
-
-pub bounds-needs-at : goal.bounds-needs-at
-bounds-needs-at c = omega arith
-
 pub returns-then-counts-q : goal.returns-then-counts-q
 unfolding row_met
 returns-then-counts-q c =
     sym (c.loop-q.invariant.1 ∙ every_fails _ _ c.loop-q-test.true (lt-leb _ _ c.if-counts-q.true))
-
-pub loop-q-smaller : goal.loop-q-smaller
-loop-q-smaller c = omega arith
 
 pub loop-q-preserved : goal.loop-q-preserved
 unfolding row_met

@@ -6,14 +6,8 @@ use Rattle.marks.proofs.row_there.Goals as goal
 pub returns-then-rows-e : goal.returns-then-rows-e
 returns-then-rows-e c = row_there-no _ _ _ (omega arith)
 
-pub overflow_sub-rows : goal.overflow_sub-rows
-overflow_sub-rows c = omega arith
-
 pub returns-then-rows-e-2 : goal.returns-then-rows-e-2
 returns-then-rows-e-2 c = row_there-no _ _ _ (omega arith)
-
-pub overflow_add-result : goal.overflow_add-result
-overflow_add-result c = omega arith
 
 pub returns : goal.returns
 returns c = row_there-is _ _ _ (omega arith)

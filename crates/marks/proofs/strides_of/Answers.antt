@@ -12,29 +12,11 @@ use Rattle.marks.specs.Rows.{strides_of}
 use Rattle.marks.proofs.RowLaws.{weight_next}
 use Rattle.marks.proofs.strides_of.Goals as goal
 
-pub overflow_cast-n : goal.overflow_cast-n
-overflow_cast-n c = omega arith
-
 pub loop-p-init : goal.loop-p-init
 unfolding tab weight product_to
 loop-p-init c =
     let l = eight_counts c.args.full _ c.well_formed.0 in
     (omega arith, c.requires.0.most_eight, omega (arith, box_loop _ c.requires.0 l), refl, refl)
-
-pub offset_bounds-strides-p : goal.offset_bounds-strides-p
-offset_bounds-strides-p c = omega arith
-
-pub bounds-strides-p : goal.bounds-strides-p
-bounds-strides-p c = omega arith
-
-pub offset_bounds-events-p : goal.offset_bounds-events-p
-offset_bounds-events-p c = omega arith
-
-pub bounds-events-p : goal.bounds-events-p
-bounds-events-p c = omega arith
-
-pub overflow_add-w : goal.overflow_add-w
-overflow_add-w c = omega arith
 
 pub overflow_mul-w : goal.overflow_mul-w
 overflow_mul-w c =
@@ -42,12 +24,6 @@ overflow_mul-w c =
     let wide = c.wide in
     let f = weight_next c.args.full.counts loop.p loop.w wide.result loop.invariant.3 wide.ensures.0 in
     omega (arith, f, weight_le c.args.full.counts (loop.p + 1) c.args.full.n (omega arith))
-
-pub overflow_add-p : goal.overflow_add-p
-overflow_add-p c = omega arith
-
-pub loop-p-smaller : goal.loop-p-smaller
-loop-p-smaller c = omega arith
 
 pub loop-p-preserved : goal.loop-p-preserved
 loop-p-preserved c =

@@ -22,9 +22,6 @@ pub returns-then-marks-r-ne3 : goal.returns-then-marks-r-ne3
 returns-then-marks-r-ne3 c =
     walked_none _ _ _ _ (rank_last c.args.full c.args.size c.requires.2) c.if-marks-r-ne3.true
 
-pub overflow_cast-n : goal.overflow_cast-n
-overflow_cast-n c = omega arith
-
 pub strides_of-strides-requires : goal.strides_of-strides-requires
 strides_of-strides-requires c =
     (c.requires.0, c.requires.1)
@@ -51,12 +48,6 @@ first_back-p-requires c =
       omega (arith, loop.invariant.ranked, rank_lt (counts_of c.args.full) (take c.args.full.n loop.counts) loop.invariant.cut, c.requires.2, c.requires.3),
     )
 
-pub overflow_sub-k : goal.overflow_sub-k
-overflow_sub-k c = omega arith
-
-pub overflow_add-path : goal.overflow_add-path
-overflow_add-path c = omega arith
-
 pub overflow_cast-path : goal.overflow_cast-path
 overflow_cast-path c =
     omega (arith, c.first_back-p.ensures.1, c.requires.0.most_eight)
@@ -81,9 +72,6 @@ step_back-r-requires c =
       omega (arith, ap length strides-of.ensures, length-strides_of c.args.full c.requires.0, c.requires.0.most_eight),
       walked_found _ c.requires.0 l _ _ _ _ _ _ _ loop.invariant _ strides-of.ensures _ c.first_back-p.ensures.0,
     )
-
-pub loop-k-smaller : goal.loop-k-smaller
-loop-k-smaller c = omega arith
 
 pub loop-k-preserved : goal.loop-k-preserved
 loop-k-preserved c =
