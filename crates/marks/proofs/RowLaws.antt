@@ -49,10 +49,6 @@ blank_more l first x h =
     h
     ∙ rw (e, replicate_more x 0, ← append_assoc (take first l) (replicate x 0) (0 ∷ [])) refl
 
--- .. and so at the front
-pub zeros_more : (l : List ℕ) (x : ℕ) → x < length l → set (replicate x 0 ++ drop x l) x 0 ≡ replicate (x + 1) 0 ++ drop (x + 1) l
-zeros_more l x h = front_more (replicate x 0) l x 0 0 (length-replicate x 0) h ∙ rw (replicate_more x 0) refl
-
 -- zeros that are there already
 pub blank_there : (l : List ℕ) (first x : ℕ) → first + x ≤ length l → BlankFrom l first x → l ≡ (take first l ++ replicate x 0) ++ drop (first + x) l
 blank_there l first zero h z = blank_none l first
@@ -262,10 +258,3 @@ row_none size w = (omega arith, omega arith, omega arith)
 pub row_next : (w k j r b size : ℕ) → w ≡ k → r + k < b → size ≡ b → j ≤ r → r ≡ (w + 1) * j
     → (r + (w + 1) ≤ size) × (j + 1 ≤ r + (w + 1)) × (r + (w + 1) ≡ (w + 1) * (j + 1))
 row_next w k j r b size e l s h f = (omega arith, omega arith, omega arith)
-
--- .. so that fewer ranks are left, and the numbers stay small
-pub row_less : (w r size : ℕ) → r < size → size - (r + (w + 1)) < size - r
-row_less w r size h = omega arith
-
-pub row_small : (w j r b size : ℕ) → w < 65536 → j ≤ r → r < size → size ≡ b → b ≤ 65536 → (j + 1 < 131073) × (r + (w + 1) < 131073)
-row_small w j r b size k h l s g = (omega arith, omega arith)

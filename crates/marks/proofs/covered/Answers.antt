@@ -1,5 +1,4 @@
 use mathlib.Core.Path.{refl}
-use native.Mathlib.Nat.{le_antisymm}
 use native.Mathlib.Omega.{arith}
 use Rattle.cuts.specs.Below.{every}
 use Rattle.marks.proofs.SearchLaws.{every_next}
@@ -13,8 +12,3 @@ pub loop-p-preserved : goal.loop-p-preserved
 loop-p-preserved c =
     let loop = c.loop-p in
     (omega arith, loop.invariant.1, every_next _ _ _ _ loop.invariant.2 (rw c.wide.ensures.0 at c.row_there-all.ensures))
-
-pub returns : goal.returns
-returns c =
-    let loop = c.loop-p in
-    rw (le_antisymm loop.invariant.0 c.loop-p-test.false) at loop.invariant.2

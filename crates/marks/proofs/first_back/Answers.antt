@@ -1,19 +1,10 @@
 use mathlib.Core.Path.{◌≡◌, sym, ◌∙◌}
 use Prim.Native.Nat.{◌+◌, ◌-◌}
 use native.Mathlib.Omega.{arith}
-use borrow.Author.Count.{below_none, below_more}
+use borrow.Author.Count.{below_more}
 use Rattle.marks.specs.Rows.{leads_back}
 use Rattle.marks.proofs.SearchLaws.{first_found, first_none}
 use Rattle.marks.proofs.first_back.Goals as goal
-
-pub loop-left-init : goal.loop-left-init
-loop-left-init c =
-    let e : c.args.n - c.args.n ≡ 0 = omega arith in
-    (omega arith, rw e (below_none _))
-
-pub leads_back-requires : goal.leads_back-requires
-leads_back-requires c =
-    (c.requires.0 _ (omega arith), c.requires.4)
 
 pub returns-then-leads_back : goal.returns-then-leads_back
 unfolding leads_back

@@ -1,17 +1,13 @@
 use mathlib.Core.Path.{◌≡◌, refl, sym, ◌∙◌}
 use Prim.Native.Nat.{◌+◌}
-use native.Mathlib.Nat.{div-one, mod-lt}
+use native.Mathlib.Nat.{div-one}
 use native.Mathlib.Omega.{arith}
 use lib.ListN.{length-set}
 use Rattle.cuts.specs.Below.{product_to}
-use Rattle.cuts.specs.Cut.{at}
 use Rattle.cuts.specs.Rank.{weight}
 use Rattle.marks.specs.Rows.{cut_with}
 use Rattle.marks.proofs.RowLaws.{top_one, top_more, top_at-laid}
 use Rattle.marks.proofs.lay_top.Goals as goal
-
-pub overflow_sub-others : goal.overflow_sub-others
-overflow_sub-others c = c.requires.0.some_station
 
 pub loop-i-init : goal.loop-i-init
 unfolding weight product_to
@@ -23,35 +19,6 @@ loop-i-init c =
       sym (div-one _),
       top_one c.args.events.now room c.args.j (omega arith),
     )
-
-pub offset_bounds-events-p : goal.offset_bounds-events-p
-offset_bounds-events-p c =
-    omega (arith, c.requires.0.most_eight)
-
-pub bounds-events-p : goal.bounds-events-p
-bounds-events-p c =
-    omega (arith, c.requires.0.most_eight)
-
-pub overflow_cast-k : goal.overflow_cast-k
-overflow_cast-k c = omega (arith, c.type_inv.events (c.loop-i.i + 1))
-
-pub overflow_add-k : goal.overflow_add-k
-overflow_add-k c = omega (arith, c.type_inv.events (c.loop-i.i + 1))
-
-pub overflow_cast-counts : goal.overflow_cast-counts
-overflow_cast-counts c = omega (arith, mod-lt c.loop-i.left {m = at c.args.events.now (c.loop-i.i + 1) + 1} (omega arith), c.type_inv.events (c.loop-i.i + 1))
-
-pub offset_bounds-counts-p : goal.offset_bounds-counts-p
-offset_bounds-counts-p c =
-    omega (arith, c.requires.0.most_eight)
-
-pub bounds-counts-p : goal.bounds-counts-p
-bounds-counts-p c =
-    omega (arith, c.requires.0.most_eight)
-
-pub overflow_add-i : goal.overflow_add-i
-overflow_add-i c =
-    omega (arith, c.requires.0.most_eight)
 
 pub loop-i-preserved : goal.loop-i-preserved
 loop-i-preserved c =

@@ -4,16 +4,9 @@ use native.Mathlib.Omega.{arith}
 use Rattle.marks.proofs.FlatLaws.{witness_none, witness_some}
 use Rattle.marks.proofs.read_off.Goals as goal
 
-pub first_one-r-requires : goal.first_one-r-requires
-first_one-r-requires c = c.requires.2
-
 pub returns-then-size-r : goal.returns-then-size-r
 returns-then-size-r c =
     c.no_witness.ensures ∙ witness_none _ _ _ (omega (arith, rw c.requires.1 at c.first_one-r.ensures, c.requires.1))
-
-pub cut_of-cut-requires : goal.cut_of-cut-requires
-cut_of-cut-requires c =
-    (c.requires.0, omega (arith, c.requires.1))
 
 pub returns : goal.returns
 returns c =

@@ -1,12 +1,9 @@
-use mathlib.Core.Path.{refl, sym, ◌∙◌}
+use mathlib.Core.Path.{sym, ◌∙◌}
 use native.Mathlib.Omega.{arith}
 use borrow.Author.Tests.{le-leb, lt-leb}
 use Rattle.marks.specs.Flat.{row_met}
 use Rattle.marks.proofs.SearchLaws.{every_last, every_end, every_fails}
 use Rattle.marks.proofs.row_met.Goals as goal
-
-pub loop-q-init : goal.loop-q-init
-loop-q-init c = (omega arith, refl)
 
 pub returns-then-counts-q : goal.returns-then-counts-q
 unfolding row_met

@@ -30,12 +30,6 @@ read_off-requires c =
     let (f, e) = size_box _ _ _ _ _ _ size.result size.ensures c.if-size-lt1.false in
     (f.full, e, rw (c.fill.auto.marks, e) f.fits)
 
-pub shape_of-marks : goal.shape_of-marks
-shape_of-marks c = c.fill.auto.marks
-
-pub shape_of-path : goal.shape_of-path
-shape_of-path c = c.walk-def.auto.path
-
 pub returns : goal.returns
 returns c =
     let size = c.size_of-size in

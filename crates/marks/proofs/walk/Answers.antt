@@ -22,68 +22,45 @@ pub returns-then-marks-r-ne3 : goal.returns-then-marks-r-ne3
 returns-then-marks-r-ne3 c =
     walked_none _ _ _ _ (rank_last c.args.full c.args.size c.requires.2) c.if-marks-r-ne3.true
 
-pub strides_of-strides-requires : goal.strides_of-strides-requires
-strides_of-strides-requires c =
-    (c.requires.0, c.requires.1)
-
 pub loop-k-init : goal.loop-k-init
 loop-k-init c =
     rw (sym (rank_last c.args.full c.args.size c.requires.2)) (walked_start _ c.requires.0 (eight_counts c.args.full _ c.well_formed.0) _ _ _)
 
-pub slice_bounds-first_back-end : goal.slice_bounds-first_back-end
-slice_bounds-first_back-end c = sym c.loop-k.invariant.eight
-
-pub slice_bounds-first_back-end-in-loop-k : goal.slice_bounds-first_back-end-in-loop-k
-slice_bounds-first_back-end-in-loop-k c = sym (ap length c.strides_of-strides.ensures ∙ length-strides_of _ c.requires.0)
-
 pub first_back-p-requires : goal.first_back-p-requires
 first_back-p-requires c =
-    let strides-of = c.strides_of-strides in
+    let strides = c.strides_of-strides in
     let loop = c.loop-k in
     let l = eight_counts c.args.full _ c.well_formed.0 in (
-      walked_steps _ c.requires.0 l _ _ _ _ _ _ _ loop.invariant _ strides-of.ensures,
+      walked_steps _ c.requires.0 l _ _ _ _ _ _ _ loop.invariant _ strides.ensures,
       c.requires.0.most_eight,
       omega (arith, loop.invariant.eight, c.requires.0.most_eight),
-      omega (arith, ap length strides-of.ensures, length-strides_of c.args.full c.requires.0, c.requires.0.most_eight),
+      omega (arith, ap length strides.ensures, length-strides_of c.args.full c.requires.0, c.requires.0.most_eight),
       omega (arith, loop.invariant.ranked, rank_lt (counts_of c.args.full) (take c.args.full.n loop.counts) loop.invariant.cut, c.requires.2, c.requires.3),
     )
-
-pub overflow_cast-path : goal.overflow_cast-path
-overflow_cast-path c =
-    omega (arith, c.first_back-p.ensures.1, c.requires.0.most_eight)
 
 pub bounds-path-k : goal.bounds-path-k
 bounds-path-k c =
     let loop = c.loop-k in
     omega (arith, loop.invariant.place, loop.invariant.length, c.events-k.ensures ∙ events_of-full _ c.requires.0, c.requires.4)
 
-pub slice_bounds-step_back-end : goal.slice_bounds-step_back-end
-slice_bounds-step_back-end c = sym c.loop-k.invariant.eight
-
-pub slice_bounds-step_back-end-in-loop-k : goal.slice_bounds-step_back-end-in-loop-k
-slice_bounds-step_back-end-in-loop-k c = sym (ap length c.strides_of-strides.ensures ∙ length-strides_of _ c.requires.0)
-
 pub step_back-r-requires : goal.step_back-r-requires
 step_back-r-requires c =
-    let strides-of = c.strides_of-strides in
+    let strides = c.strides_of-strides in
     let loop = c.loop-k in
     let l = eight_counts c.args.full _ c.well_formed.0 in (
       omega (arith, loop.invariant.eight, c.requires.0.most_eight),
-      omega (arith, ap length strides-of.ensures, length-strides_of c.args.full c.requires.0, c.requires.0.most_eight),
-      walked_found _ c.requires.0 l _ _ _ _ _ _ _ loop.invariant _ strides-of.ensures _ c.first_back-p.ensures.0,
+      omega (arith, ap length strides.ensures, length-strides_of c.args.full c.requires.0, c.requires.0.most_eight),
+      walked_found _ c.requires.0 l _ _ _ _ _ _ _ loop.invariant _ strides.ensures _ c.first_back-p.ensures.0,
     )
 
 pub loop-k-preserved : goal.loop-k-preserved
 loop-k-preserved c =
-    let strides-of = c.strides_of-strides in
+    let strides = c.strides_of-strides in
     let loop = c.loop-k in
     let l = eight_counts c.args.full _ c.well_formed.0 in
     let e : loop.k ≡ loop.k - 1 + 1 = omega arith in
-    rw (c.step_back-r.ensures.0, strides-of.ensures)
-    (walked_more _ c.requires.0 l _ _ _ _ _ _ _ _ _ (rw e at loop.invariant) (rw (c.events-k.ensures ∙ events_of-full _ c.requires.0) c.requires.4) (rw strides-of.ensures at c.first_back-p.ensures.0) c.step_back-r.ensures.1)
-
-pub shape_of-path : goal.shape_of-path
-shape_of-path c = c.loop-k.invariant.length
+    rw (c.step_back-r.ensures.0, strides.ensures)
+    (walked_more _ c.requires.0 l _ _ _ _ _ _ _ _ _ (rw e at loop.invariant) (rw (c.events-k.ensures ∙ events_of-full _ c.requires.0) c.requires.4) (rw strides.ensures at c.first_back-p.ensures.0) c.step_back-r.ensures.1)
 
 pub returns : goal.returns
 returns c =
