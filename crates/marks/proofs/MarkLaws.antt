@@ -8,7 +8,7 @@ use native.Mathlib.Numerals.{add-one}
 use native.Mathlib.Omega.{arith}
 use lib.Dec.{ltb, eqb}
 use lib.ListN.{length, take, drop, set, replicate, length-append, get_or-append}
-use lib.Seq.{length-take-le, set_set}
+use lib.Seq.{length-take-le, set-set}
 use mir.Val.{bool_byte}
 use borrow.Author.Tests.{ltb-true, lt-ltb, le-ltb}
 use Rattle.cuts.specs.Below.{first, any}
@@ -53,16 +53,9 @@ module _ (frame : Frame) (sum : ℕ) (needs weights strides marks c : List ℕ) 
         go true = refl
         go false = refl
 
-pub mark_small : (b : Bool) → 2 + bool_byte b < 256
-mark_small true = omega arith
-mark_small false = omega arith
-
--- one cut of a row more, and no cut more
+-- one cut of a row more
 pub cuts_more : (x width : ℕ) → x < width → width ≤ 65536 → (min x width ≡ x) × (min (x + 1) width ≡ x + 1) × (width - (x + 1) < width - x) × (x + 1 < 65537)
 cuts_more x width l g = (omega arith, omega arith, omega arith, omega arith)
-
-pub cuts_end : (x width : ℕ) → width ≤ x → min x width ≡ width
-cuts_end x width h = omega arith
 
 -- eight counts have a first
 pub some_count : (c : List ℕ) → length c ≡ 8 → 0 < length c
@@ -70,7 +63,7 @@ some_count c e = omega arith
 
 -- two cuts that differ in their first count
 pub set_first : (c d : List ℕ) (x : ℕ) → c ≡ set d 0 (at c 0) → set c 0 x ≡ set d 0 x
-set_first c d x e = ap (λ (l : List ℕ). set l 0 x) e ∙ set_set d 0 (at c 0) x
+set_first c d x e = ap (λ (l : List ℕ). set l 0 x) e ∙ set-set d 0 (at c 0) x
 
 leads_back-front : (l rest c strides : List ℕ) (r p : ℕ) → r ≤ length l → (0 < at c p → (1 ≤ at strides p) × (at strides p ≤ r))
     → leads_back (l ++ rest) c strides r p ≡ leads_back l c strides r p
