@@ -4,11 +4,11 @@ use mathlib.Core.Path.{◌≡◌, refl, sym, ap, ◌∙◌, subst}
 use mathlib.Core.Bool.{Bool, true, false, ◌&&◌, ◌||◌, cond, false≢true}
 use mathlib.Core.List.{List, [], ◌∷◌, ◌++◌}
 use Prim.Native.Nat.{ℕ, zero, suc, ◌+◌, ◌-◌, ◌*◌, ◌≤◌, ◌<◌}
-use native.Mathlib.Nat.{zero-mod, zero-div}
+use native.Mathlib.Nat.{zero-mod, zero-div, le_antisymm}
 use native.Mathlib.Numerals.{add-one}
 use native.Mathlib.Omega.{arith}
 use lib.Dec.{leb, ltb, eqb}
-use lib.ListN.{length, take, drop, set, replicate, length-set}
+use lib.ListN.{length, take, drop, set, replicate, length-set, length-replicate}
 use lib.Seq.{get_or-set_same, get_or-set_other, get_or-take, set-get_or, ext_get_or, length-take-le, take_at}
 use borrow.Author.Tests.{leb-true, le-leb, lt-leb, lt-ltb, ltb-true, ltb-false, eqb-true, eq-eqb}
 use Rattle.cuts.specs.Below.{every, any, sum_to, tab}
@@ -242,6 +242,13 @@ module _ (task : Task) (needs weights : List ℕ) where
   pub blank_behind : (d d' marks : List ℕ) (size first width : ℕ) → d' ≡ marks_to task needs weights first ++ drop first d → first + width ≤ size
       → d ≡ replicate size 0 ++ drop size marks → BlankFrom d' first width
   blank_behind d d' marks size first width e h b = rw e (blank_rest (marks_to task needs weights first) d marks size first width (length-marks_to first) h b)
+
+  -- after the last row
+  pub blank_end : (d d' marks : List ℕ) (size first : ℕ) → d' ≡ marks_to task needs weights first ++ drop first d → first ≤ size → size ≤ first
+      → d ≡ replicate size 0 ++ drop size marks → d' ≡ marks_to task needs weights size ++ drop size marks
+  blank_end d d' marks size first e h g b =
+      rw (le_antisymm h g) at e
+      ∙ ap (λ (l : List ℕ). marks_to task needs weights size ++ l) (rw b (drop_front (replicate size 0) marks size size (length-replicate size 0) (omega arith)))
 
   -- the mark of rank r, from the marks l of the ranks below
   abbrev next_mark : ℕ → List ℕ → ℕ

@@ -53,9 +53,16 @@ module _ (frame : Frame) (sum : ℕ) (needs weights strides marks c : List ℕ) 
         go true = refl
         go false = refl
 
--- one cut of a row more
+pub mark_small : (b : Bool) → 2 + bool_byte b < 256
+mark_small true = omega arith
+mark_small false = omega arith
+
+-- one cut of a row more, and no cut more
 pub cuts_more : (x width : ℕ) → x < width → width ≤ 65536 → (min x width ≡ x) × (min (x + 1) width ≡ x + 1) × (width - (x + 1) < width - x) × (x + 1 < 65537)
 cuts_more x width l g = (omega arith, omega arith, omega arith, omega arith)
+
+pub cuts_end : (x width : ℕ) → width ≤ x → min x width ≡ width
+cuts_end x width h = omega arith
 
 -- eight counts have a first
 pub some_count : (c : List ℕ) → length c ≡ 8 → 0 < length c

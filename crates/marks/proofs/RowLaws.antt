@@ -8,7 +8,7 @@ use native.Mathlib.Decide.{dec_lt}
 use native.Mathlib.Numerals.{add-one}
 use native.Mathlib.Omega.{arith}
 use lib.ListN.{length, take, drop, set, replicate, take-append-drop, length-append, length-drop, length-set, length-replicate, get_or-replicate, replicate-append-replicate, get_or-append, get_or-eq_default}
-use lib.Seq.{length-take-le, drop_at, drop-set-lt, drop-append-add, drop-drop, get_or-append-add, get_or-drop, set-get_or}
+use lib.Seq.{length-take-le, take_at, drop_at, drop-set-lt, drop-append-add, drop-drop, get_or-append-add, get_or-drop, set-get_or}
 use Rattle.cuts.specs.Below.{tab}
 use Rattle.cuts.specs.Cut.{at}
 use Rattle.cuts.specs.Rank.{weight, unrank, box}
@@ -48,6 +48,10 @@ blank_more l first x h =
     (length-append (take first l) _ ∙ omega (arith, length-take-le first l (omega arith), length-replicate {A = ℕ} x 0))
     h
     ∙ rw (e, replicate_more x 0, ← append_assoc (take first l) (replicate x 0) (0 ∷ [])) refl
+
+-- .. and so at the front
+pub zeros_more : (l : List ℕ) (x : ℕ) → x < length l → set (replicate x 0 ++ drop x l) x 0 ≡ replicate (x + 1) 0 ++ drop (x + 1) l
+zeros_more l x h = front_more (replicate x 0) l x 0 0 (length-replicate x 0) h ∙ rw (replicate_more x 0) refl
 
 -- zeros that are there already
 pub blank_there : (l : List ℕ) (first x : ℕ) → first + x ≤ length l → BlankFrom l first x → l ≡ (take first l ++ replicate x 0) ++ drop (first + x) l
@@ -258,3 +262,10 @@ row_none size w = (omega arith, omega arith, omega arith)
 pub row_next : (w k j r b size : ℕ) → w ≡ k → r + k < b → size ≡ b → j ≤ r → r ≡ (w + 1) * j
     → (r + (w + 1) ≤ size) × (j + 1 ≤ r + (w + 1)) × (r + (w + 1) ≡ (w + 1) * (j + 1))
 row_next w k j r b size e l s h f = (omega arith, omega arith, omega arith)
+
+-- .. so that fewer ranks are left, and the numbers stay small
+pub row_less : (w r size : ℕ) → r < size → size - (r + (w + 1)) < size - r
+row_less w r size h = omega arith
+
+pub row_small : (w j r b size : ℕ) → w < 65536 → j ≤ r → r < size → size ≡ b → b ≤ 65536 → (j + 1 < 131073) × (r + (w + 1) < 131073)
+row_small w j r b size k h l s g = (omega arith, omega arith)
