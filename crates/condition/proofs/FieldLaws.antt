@@ -13,7 +13,6 @@ use Rattle.levels.specs.Level.{twos}
 use Rattle.levels.proofs.LevelLaws.{sub_pos, sub_eq, sub_le}
 use Rattle.cuts.proofs.BelowLaws.{and_true, and_false, length_tab}
 use Rattle.cuts.proofs.TabLaws.{front_more}
-use Rattle.cuts.proofs.ReplyLaws.{refuted}
 use Rattle.condition.specs.Condition.{bound_of, raised_of, upright, zeros, kind_at, k_at, low_at, high_at, kind_of, asked_at, window_low, window_high, window_ok, window_of, condition_ok, condition_of, refused_of, read_of, no_window, no_condition}
 use Rattle.condition.specs.declared.Kind.{Kind}
 use Rattle.condition.specs.declared.Window.{Window}
@@ -89,7 +88,7 @@ module _ (s : List ℕ) (p : ℕ) where
   pub window_ok-other : (kind_at s ≡ 2 → ⊥)
       → window_ok s p ≡ cond (asked_at s p) (upright (window_low s p) (window_high s p)) (zeros (window_low s p) (window_high s p))
   unfolding window_ok
-  window_ok-other e = rw (ne_eqb _ _ e, B.and_true (asked_at s p)) refl
+  window_ok-other e = rw (ne_eqb _ _ e, B.and-true (asked_at s p)) refl
 
   -- a window's test as the code makes it, of excess numbers
   pub window_ok-read : {w : Window} {sum r : Bool} → w ≡ window_of s p → sum ≡ eqb (kind_at s) 2

@@ -1,12 +1,10 @@
 -- Laws of what a station adds to the sum that decides. In order: the eight windows of a condition; a window's test; a test as a number; what a station adds.
 -- Assumes nothing.
-use Rattle.std.proofs.Common.{◌≡◌, ℕ, ◌+◌, ◌*◌, ◌≤◌, Bool, true, false, cond, ◌&&◌, leb, List, [], ◌∷◌, length, sym, refl, ap, ◌∙◌, inl, inr, arith}
-use lib.ListN.{length-map, get_or-eq_default}
+use Rattle.std.proofs.Common.{◌≡◌, ℕ, ◌+◌, ◌*◌, ◌≤◌, Bool, true, false, cond, ◌&&◌, leb, List, length, refl, ap, arith}
+use lib.ListN.{get_or-eq_default}
 use mir.Val.{Val, bool_byte}
 use denote.Laws.{Is}
-use types.Run.{OneOf}
 use denote.Struct.Declared.{row}
-use denote.Enum.Declared.{tag_of}
 use Rattle.levels.specs.Level.{level_of}
 use Rattle.levels.proofs.LevelLaws.{sub_le}
 use Rattle.condition.specs.Condition.{bound_of, between, lies, window_at, no_window}
@@ -15,12 +13,11 @@ use Rattle.condition.specs.declared.Window.{Window}
 use Rattle.condition.specs.declared.Kind.{Kind}
 use Rattle.condition.specs.declared.Condition.{Condition}
 use Rattle.condition.specs.contracts.Condition.{the_type}
-use Rattle.condition.specs.contracts.Kind.{the_type as kind-type}
 use Rattle.condition.proofs.FieldLaws.{leb_add}
 
 -- a condition that is passed by value has eight windows
 pub eight_windows : (c : Condition) (vs : List Val) → Is (row the_type) c vs → length c.windows ≡ 8
-eight_windows c vs g = sym (length-map c.windows _) ∙ g.1.1.1.0.1.0.1
+eight_windows c vs g = g.1.1.1.0.1.0.1
 
 -- no station beyond the eighth is asked
 pub unasked_beyond : (c : Condition) (p : ℕ) → length c.windows ≡ 8 → 8 ≤ p → (window_at c p).asked ≡ false
@@ -64,15 +61,14 @@ module _ (c : Condition) (p x : ℕ) where
   abbrev is_inside : Window → Bool
   is_inside w = w.asked && (leb w.low (x + 30720) && leb (x + 30720) w.high)
 
-  inside_by : (k : Kind) → OneOf (0 ∷ 1 ∷ []) (tag_of kind-type k) → bool_byte (is_inside (window_at c p)) ≡ weigh_by k c p x
+  inside_by : (k : Kind) → ((low high : ℕ) → k ≡ Kind.Sum low high → ⊥) → bool_byte (is_inside (window_at c p)) ≡ weigh_by k c p x
   unfolding weigh_by
   inside_by Kind.Together o = rw (lies_excess (window_at c p) x) (byte_one (is_inside (window_at c p)))
   inside_by (Kind.AtLeast k) o = rw (lies_excess (window_at c p) x) (byte_one (is_inside (window_at c p)))
-  inside_by (Kind.Sum low high) (inl o) = let z : ◌≡◌ {A = ℕ} 2 0 = o in absurd (omega arith)
-  inside_by (Kind.Sum low high) (inr o) = let z : ◌≡◌ {A = ℕ} 2 1 = o in absurd (omega arith)
+  inside_by (Kind.Sum low high) o = absurd (o low high refl)
 
   -- such a station adds 1, for Together and At least
-  pub weigh_inside : OneOf (0 ∷ 1 ∷ []) (tag_of kind-type c.kind) → bool_byte (is_inside (window_at c p)) ≡ weigh_of c p x
+  pub weigh_inside : ((low high : ℕ) → c.kind ≡ Kind.Sum low high → ⊥) → bool_byte (is_inside (window_at c p)) ≡ weigh_of c p x
   unfolding weigh_of
   weigh_inside o = inside_by c.kind o
 

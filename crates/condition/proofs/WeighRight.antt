@@ -1,7 +1,7 @@
 -- One sum decides whether a condition holds: specs/Weigh.antt meets specs/Condition.antt. In order: tests that say the same; counts; the signed sum as an
 -- excess number; the three kinds; the same over n stations. Assumes nothing.
 use Rattle.std.proofs.Common.{◌≡◌, ℕ, zero, suc, ◌+◌, ◌*◌, ◌<◌, ◌≤◌, Bool, true, false, cond, not, ◌&&◌, ◌||◌, leb, pos, ◌+ℤ◌, sym, refl, ap, ◌∙◌, ⊎_elim, le_of_suc-le-suc, eq-or-lt_of_le, arith, le-leb, leb-true}
-use mathlib.Core.Bool.{false≢true, and_true}
+use mathlib.Core.Bool.{false≢true, and-true}
 use lib.IntN.{sub_ℕ, +ℤ_idr}
 use Rattle.levels.specs.Level.{level_of}
 use Rattle.levels.proofs.LevelLaws.{sub_le, sub_eq, sub_add}
@@ -75,7 +75,7 @@ within_count : (a k : ℕ) → k ≤ 8 → within (record { least = 32768 + a; m
 unfolding within
 within_count a k h =
     let e : 32768 + a ≡ a + 32768 = omega arith in
-    rw (e, leb_add a k 32768, le-leb (k + 32768) 32776 (omega arith)) (and_true (leb a k))
+    rw (e, leb_add a k 32768, le-leb (k + 32768) 32776 (omega arith)) (and-true (leb a k))
 
 module _ (c : Condition) (x : ℕ → ℕ) where
   -- the asked levels' sum, as the excess numbers' sum less 2,048 for each

@@ -1,5 +1,6 @@
 // The condition of document 01: read from its 38 bytes, and asked of levels.
 #![tactic(auto)]
+
 ghost use Rattle.std.specs.Prelude.{◌≡◌, ◌+◌, ◌≤◌, ◌&&◌, nat_le};
 ghost use mir.Val.{bool_byte};
 ghost use Rattle.cuts.specs.Cut.{at};

@@ -8,7 +8,7 @@ use Prim.Native.Nat.{ℕ, ◌-◌, ◌≤◌}
 use native.Mathlib.Omega.{arith}
 use lib.ListN.{length, take, drop, replicate, length-drop, length-replicate}
 use lib.Seq.{take_all}
-use Rattle.cuts.specs.Cut.{at, total}
+use Rattle.cuts.specs.Cut.{total}
 use Rattle.cuts.specs.Rank.{box}
 use Rattle.cut.specs.Value.{box_of, events_of}
 use Rattle.cut.specs.declared.Cut.{Cut}

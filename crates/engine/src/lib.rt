@@ -1,5 +1,6 @@
 // The reply to a job: both verdicts with their evidence.
 #![tactic(auto)]
+
 ghost use Rattle.engine.specs.Job.{Judged};
 
 use cut::Cut;

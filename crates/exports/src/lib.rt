@@ -1,5 +1,6 @@
 // The entry that the benchmark calls from C.
 #![tactic(auto)]
+
 ghost use Rattle.std.specs.Prelude.{◌≡◌};
 ghost use Rattle.exports.specs.Exports.{verdict_number, JudgeExported};
 

@@ -7,9 +7,12 @@ use native.Mathlib.Omega.{arith}
 use lib.ListN.{length, take, drop, set, length-append, length-drop, length-set}
 use lib.Seq.{length-take-le, take-suc-set}
 use borrow.Author.Tests.{le-leb}
-use Rattle.io.specs.Counts.{IsPrefixLen}
 use Rattle.text.specs.Text.{taken_by, text_in}
 use Rattle.text.proofs.TextRight.{printed_front}
+
+-- a front of n is within the list, and has n elements
+abbrev pub IsPrefixLen : ℕ → List ℕ → Type 0
+IsPrefixLen n xs = (n ≤ length xs) × (n ≡ length (take n xs))
 
 pub counts_within : (r : ℕ) (l : List ℕ) → r ≤ length l → IsPrefixLen r l
 counts_within r l h = (h, sym (length-take-le r l h))

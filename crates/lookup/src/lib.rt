@@ -1,5 +1,6 @@
 // The lookup of one record of a packed recording, after the recording's checks.
 #![tactic(auto)]
+
 ghost use Rattle.std.specs.Prelude.{◌≡◌, ◌&&◌, ◌+◌, ◌-◌, ◌≤◌, ◌<◌, leb};
 ghost use Rattle.cuts.specs.Below.{sum_to, tab};
 ghost use Rattle.cuts.specs.Cut.{at};

@@ -8,7 +8,7 @@ use native.Mathlib.Numerals.{add-one}
 use native.Mathlib.Omega.{arith}
 use lib.Dec.{ltb, eqb}
 use lib.ListN.{length, take, drop, set, replicate, length-append, get_or-append}
-use lib.Seq.{length-take-le, set_set}
+use lib.Seq.{length-take-le, set-set}
 use mir.Val.{bool_byte}
 use borrow.Author.Tests.{ltb-true, lt-ltb, le-ltb}
 use Rattle.cuts.specs.Below.{first, any}
@@ -70,7 +70,7 @@ some_count c e = omega arith
 
 -- two cuts that differ in their first count
 pub set_first : (c d : List ℕ) (x : ℕ) → c ≡ set d 0 (at c 0) → set c 0 x ≡ set d 0 x
-set_first c d x e = ap (λ (l : List ℕ). set l 0 x) e ∙ set_set d 0 (at c 0) x
+set_first c d x e = ap (λ (l : List ℕ). set l 0 x) e ∙ set-set d 0 (at c 0) x
 
 leads_back-front : (l rest c strides : List ℕ) (r p : ℕ) → r ≤ length l → (0 < at c p → (1 ≤ at strides p) × (at strides p ≤ r))
     → leads_back (l ++ rest) c strides r p ≡ leads_back l c strides r p

@@ -1,11 +1,10 @@
 -- Laws of the search through the stations but the first: what is so after some of them, one station more, one whose row is not met, the last. Assumes nothing.
 use mathlib.Core.Path.{◌≡◌, refl, sym, ◌∙◌}
-use mathlib.Core.Bool.{Bool, true, false, not}
+use mathlib.Core.Bool.{Bool, true, false}
 use mathlib.Core.List.{List}
 use Prim.Native.Nat.{ℕ, ◌+◌, ◌-◌, ◌*◌, ◌≤◌, ◌<◌, max}
 use native.Mathlib.Nat.{le_antisymm}
 use native.Mathlib.Omega.{arith}
-use borrow.Author.Tests.{not-true, not-false}
 use Rattle.cuts.specs.Below.{every, sum_to}
 use Rattle.cuts.specs.Cut.{at}
 use Rattle.cuts.proofs.BelowLaws.{every_false, every_more, sum_to-more}
@@ -47,12 +46,12 @@ module _ (n : ℕ) (bases needs weights c : List ℕ) where
     -- the station at place p, w of whose events are in the cut; whether its row is met
     module _ (w : ℕ) (count : w ≡ at c p) (here : p < n) (t : Bool) (tested : t ≡ row_met n needs (8 * (at bases p + w)) c) where
       -- it is: the station too
-      pub others_more : (v h u : ℕ) → OthersTo (p - 1) low sum → not t ≡ false
+      pub others_more : (v h u : ℕ) → OthersTo (p - 1) low sum → t ≡ true
           → v ≡ at needs (8 * (at bases p + w)) → h ≡ max low v → u ≡ at weights (at bases p + w) → u < 65536
           → (1 ≤ p + 1) × (p + 1 ≤ n) × OthersTo (p + 1 - 1) h (sum + u)
       others_more v h u s f needed most weighed small =
           let e : p + 1 - 1 ≡ p = omega arith in
-          let met : row_met n needs (8 * row p) c ≡ true = rw count at (sym tested ∙ not-false t f) in
+          let met : row_met n needs (8 * row p) c ≡ true = rw count at (sym tested ∙ f) in
           let light : at weights (row p) < 65536 = rw (weighed, count) at small in (
             omega arith,
             omega arith,
@@ -60,10 +59,10 @@ module _ (n : ℕ) (bases needs weights c : List ℕ) where
           )
 
       -- it is not
-      pub others_unmet : not t ≡ true → (◌≡◌ {A = Others} (record { low = 65536; sum = 0 }) (others_of n bases needs weights c)) × (0 ≤ 524280)
+      pub others_unmet : t ≡ false → (◌≡◌ {A = Others} (record { low = 65536; sum = 0 }) (others_of n bases needs weights c)) × (0 ≤ 524280)
       unfolding others_of others_met
       others_unmet f =
-          let unmet : row_met n needs (8 * row p) c ≡ false = rw count at (sym tested ∙ not-true t f) in
+          let unmet : row_met n needs (8 * row p) c ≡ false = rw count at (sym tested ∙ f) in
           (sym (rw (every_false (n - 1) (λ k. row_met n needs (8 * row (k + 1)) c) (p - 1) (omega arith) (rw before unmet)) refl), omega arith)
 
     -- all of them

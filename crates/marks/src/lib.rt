@@ -1,6 +1,7 @@
 // The marks of a box from flat tables, and the verdicts, the witness and the path read off them.
 // A box is filled row by row of station 1: the cuts of a row differ in their first count only, and what the other stations need and add is worked out once a row.
 #![tactic(auto)]
+
 ghost use Rattle.std.specs.Prelude.{◌≡◌, ◌&&◌, false, not, cond, ◌++◌, ◌+◌, ◌-◌, ◌≤◌, ◌<◌, max, ltb, eqb, length, take, drop, set, replicate};
 ghost use Rattle.cuts.specs.Below.{every, first};
 ghost use Rattle.cuts.specs.Cut.{at, back, total};
@@ -323,7 +324,7 @@ fn no_witness(done: bool, n: u8, def: bool) -> Settled
 // The first of the first size ranks that is marked 1, or size.
 fn first_one(marks: &[u8], size: usize) -> usize
     requires { size ≤ length marks.now }
-    ensures* { λ r. ⌜ r ≡ first (λ r. eqb (at marks.now r) 1) size ⌝ }
+    ensures { result ≡ first (λ r. eqb (at marks.now r) 1) size }
 {
     let mut r = passed_over(marks, size);
     while r < size {

@@ -1,6 +1,7 @@
 // Fields of 1 to 16 bits are put into a slice of bytes, most significant bit first.
 // A place is a bit's number in the slice, from 0; a slice may have more bits than a usize can count.
 #![tactic(auto)]
+
 ghost use Rattle.std.specs.Prelude.{◌≡◌, ◌+◌, ◌*◌, ◌<◌, length};
 ghost use Rattle.put.specs.Put.{with_bit, set_bit, can_hold, Put};
 

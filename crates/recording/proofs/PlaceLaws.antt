@@ -2,7 +2,7 @@
 -- at a place; how many records stand before a station's, and where its own stand. Assumes nothing.
 use mathlib.Core.Path.{◌≡◌, ap, ◌∙◌}
 use mathlib.Core.List.{List}
-use Prim.Native.Nat.{ℕ, suc, ◌+◌, ◌-◌, ◌*◌, ◌^◌, ◌≤◌, ◌<◌}
+use Prim.Native.Nat.{ℕ, suc, ◌+◌, ◌*◌, ◌^◌, ◌≤◌, ◌<◌}
 use native.Mathlib.Nat.{mul-le-mul, lt_of_lt_of_le}
 use native.Mathlib.Omega.{arith}
 use lib.Pow.{pow_mono}

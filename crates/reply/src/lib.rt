@@ -1,5 +1,6 @@
 // The printed text of the reply to a job.
 #![tactic(auto)]
+
 ghost use Rattle.std.specs.Prelude.{◌≡◌, ◌≤◌, length};
 ghost use Rattle.text.specs.Text.{Printed};
 ghost use Rattle.reply.specs.Answer.{text_of};

@@ -6,7 +6,7 @@ use mathlib.Core.List.{List, [], ◌∷◌}
 use Prim.Native.Nat.{ℕ, suc, ◌+◌, ◌-◌, ◌*◌, ◌≤◌, ◌<◌}
 use native.Mathlib.Decide.{dec_le, dec_lt}
 use native.Mathlib.Omega.{arith}
-use lib.IntN.{pos}
+use lib.IntN.{ℤ, pos}
 use lib.ListN.{length, get_or, get_or-eq_default}
 use lib.Dec.{leb, eqb}
 use borrow.Author.Tests.{leb-true}
@@ -21,6 +21,11 @@ use Rattle.recording.specs.Check.{test, fault_of}
 use Rattle.recording.proofs.SumLaws.{sum_to-grows, sum_to-part, sum_to-most}
 use Rattle.recording.proofs.TabledLaws.{stations_tabled, count_tabled, event_tabled}
 use Rattle.recording.proofs.CheckLaws.{fault_le, no_fault}
+
+-- what was handed in
+abbrev pub given_of : ℕ → List ℕ → List ℤ → List ℕ → List ℕ → List ℤ → List ℕ → Given
+given_of n counts starts origins numbers levels stamps =
+    record { n = n; counts = counts; starts = starts; origins = origins; numbers = numbers; levels = levels; stamps = stamps }
 
 -- the counts and the records before each station's, as the code has them, of counts that are bytes
 pub count_is : (counts m : List ℕ) → m ≡ tab 8 (at counts) → (p : ℕ) → p < 8 → at m p ≡ at counts p

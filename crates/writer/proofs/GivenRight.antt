@@ -14,7 +14,7 @@ use Rattle.levels.specs.Level.{is_level}
 use Rattle.cuts.specs.Below.{sum_to, tab}
 use Rattle.cuts.specs.Cut.{at}
 use Rattle.cuts.proofs.BelowLaws.{length_tab, get_d-tab}
-use Rattle.recording.specs.Recording.{Event, Recording, stamps, levels}
+use Rattle.recording.specs.Recording.{Event, Recording, levels}
 use Rattle.recording.specs.Check.{test, fault_of, refusal, at_record, scan_to, scan_records}
 use Rattle.recording.specs.Fault.{fault_at}
 use Rattle.writer.specs.Write.{Given, first_given, recording_given, writer_tests}

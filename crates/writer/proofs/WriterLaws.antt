@@ -67,7 +67,7 @@ bits_none v b e h = sym (level_within v) ∙ le-ltb _ _ (rw e at h)
 
 -- a signed number as the machine holds it
 pub held_signed : (z : ℤ) → mag z < 32768 → to_z w16 (of_z w16 z) ≡ z
-held_signed z h = to_z-of_z (sfits_of h)
+held_signed z h = to_z-of_z {w = w16} (sfits_of h)
 
 -- a product below the product of two bounds
 pub mul_under : (a b c d : ℕ) → a ≤ c → b ≤ d → a * b ≤ c * d

@@ -1,6 +1,7 @@
 // The writer: the checks of what was handed in, and the packed recording of document 01 put into a room.
 // A refusal goes through the checks as one number: 8,192 times the station, 16 times the event, and its own number; 0 is none.
 #![tactic(auto)]
+
 ghost use Rattle.std.specs.Prelude.{◌≡◌, List, ◌++◌, ℕ, ◌+◌, ◌*◌, ◌≤◌, ◌<◌, ℤ, pos, length, get_or, drop};
 ghost use Rattle.levels.specs.Level.{is_level};
 ghost use Rattle.cuts.specs.Below.{every, sum_to, tab};
@@ -186,7 +187,7 @@ fn are_levels(n: usize, starts: &[i16]) -> bool
 }
 
 // The counts handed in, 0 beyond them.
-fn counts_of_lem(counts: &[u8]) -> [u16; 8]
+fn counts_of(counts: &[u8]) -> [u16; 8]
     ensures { result ≡ tab 8 (at counts.now) }
 {
     let mut m = [0u16; 8];
@@ -225,7 +226,7 @@ fn scan_given(
     requires { (n ≤ 8) × (length origins.now ≡ sum_to n (at counts.now)) }
     ensures { (starts : List ℤ) → answer_of result ≡ scanned_given (record { n = n; counts = counts.now; starts = starts; origins = origins.now; numbers = numbers.now; levels = levels.now; stamps = stamps.now }) }
 {
-    let m = counts_of_lem(counts);
+    let m = counts_of(counts);
     let firsts = firsts_of(counts);
     let total = origins.len();
     let mut rows = [0u16; 32704];

@@ -1,11 +1,8 @@
 -- After i turns the rest is what the first i stations leave; a turn takes one more.
 use mathlib.Core.Path.{◌≡◌}
 use Prim.Native.Nat.{◌-◌, ◌≤◌}
-use native.Mathlib.Omega.{arith}
 use lib.ListN.{length, take}
-use lib.Seq.{take_all}
 use Rattle.text.specs.Text.{numbers}
-use Rattle.text.proofs.DecimalLaws.{length_numbers_more}
 use Rattle.text.proofs.left_by_path.Given as goal
 
 abbrev pub invariant-loop-i : goal.invariant-loop-i

@@ -1,10 +1,8 @@
 -- Each turn takes the last digit of y away and counts it, so n and the digits of y together stay the digits of x and two; at the end y is one digit.
-use mathlib.Core.Path.{◌≡◌, refl}
-use Prim.Native.Nat.{◌+◌, ◌/◌, ◌≤◌, ◌<◌}
-use native.Mathlib.Omega.{arith}
+use mathlib.Core.Path.{◌≡◌}
+use Prim.Native.Nat.{◌+◌, ◌≤◌, ◌<◌}
 use lib.ListN.{length}
 use Rattle.text.specs.Text.{decimal}
-use Rattle.text.proofs.DecimalLaws.{length_digit, length_tens, length_u16}
 use Rattle.text.proofs.number_length.Given as goal
 
 abbrev pub invariant-loop-y : goal.invariant-loop-y

@@ -1,12 +1,8 @@
 -- After i turns the sum is the length of the first i numbers, at most 6 bytes each, and of the newline; a turn adds one more.
-use mathlib.Core.Path.{◌≡◌, refl, sym, ◌∙◌}
+use mathlib.Core.Path.{◌≡◌}
 use Prim.Native.Nat.{◌+◌, ◌-◌, ◌*◌, ◌≤◌}
-use native.Mathlib.Omega.{arith}
 use lib.ListN.{length, take}
-use lib.Seq.{take_all}
 use Rattle.text.specs.Text.{numbers}
-use Rattle.text.proofs.DecimalLaws.{length_numbers_more}
-use Rattle.text.proofs.TextLaws.{length_ended}
 use Rattle.text.proofs.numbers_length.Given as goal
 
 abbrev pub invariant-loop-i : goal.invariant-loop-i

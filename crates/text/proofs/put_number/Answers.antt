@@ -1,9 +1,7 @@
-use mathlib.Core.Path.{◌≡◌, refl, ◌∙◌}
-use Prim.Native.Nat.{◌+◌, ◌%◌, ◌<◌}
+use mathlib.Core.Path.{refl, ◌∙◌}
+use Prim.Native.Nat.{◌+◌, ◌%◌}
 use native.Mathlib.Omega.{arith}
-use lib.ListN.{length, length-set}
-use Rattle.text.specs.Text.{decimal}
-use Rattle.text.specs.Written.{stored}
+use lib.ListN.{length-set}
 use Rattle.text.proofs.DecimalLaws.{length_tens}
 use Rattle.text.proofs.TextLaws.{digits_more, written_number}
 use Rattle.text.proofs.put_number.Goals as goal

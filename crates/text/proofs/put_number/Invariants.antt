@@ -1,12 +1,9 @@
 -- The space is stored, and then the digits from the last on: those of y, once stored, make the room that those of x make. At the end y is one digit.
-use mathlib.Core.Path.{◌≡◌, refl, ◌∙◌}
-use Prim.Native.Nat.{◌+◌, ◌%◌, ◌<◌}
-use native.Mathlib.Omega.{arith}
-use lib.ListN.{length, length-set}
+use mathlib.Core.Path.{◌≡◌}
+use Prim.Native.Nat.{◌+◌, ◌<◌}
+use lib.ListN.{length}
 use Rattle.text.specs.Text.{decimal}
 use Rattle.text.specs.Written.{stored}
-use Rattle.text.proofs.DecimalLaws.{length_tens}
-use Rattle.text.proofs.TextLaws.{digits_more, written_number}
 use Rattle.text.proofs.put_number.Given as goal
 
 abbrev pub invariant-loop-y : goal.invariant-loop-y

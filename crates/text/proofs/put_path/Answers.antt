@@ -1,9 +1,7 @@
-use mathlib.Core.Path.{◌≡◌, refl, ◌∙◌}
-use Prim.Native.Nat.{◌-◌, ◌≤◌, ◌<◌}
+use mathlib.Core.Path.{refl, ◌∙◌}
+use Prim.Native.Nat.{◌<◌}
 use native.Mathlib.Omega.{arith}
-use lib.ListN.{length, take, length-set}
-use Rattle.text.specs.Text.{numbers}
-use Rattle.text.specs.Written.{Written}
+use lib.ListN.{length, length-set}
 use Rattle.text.proofs.TextLaws.{numbers_none, numbers_then, ended_then, number_fits, newline_fits}
 use Rattle.text.proofs.put_path.Goals as goal
 

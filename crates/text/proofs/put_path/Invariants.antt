@@ -1,11 +1,9 @@
 -- After i turns the first i stations are put; a turn puts one more, which fits since all do. The newline stands behind all.
-use mathlib.Core.Path.{◌≡◌, refl, ◌∙◌}
-use Prim.Native.Nat.{◌-◌, ◌≤◌, ◌<◌}
-use native.Mathlib.Omega.{arith}
-use lib.ListN.{length, take, length-set}
+use mathlib.Core.Path.{◌≡◌}
+use Prim.Native.Nat.{◌-◌, ◌≤◌}
+use lib.ListN.{length, take}
 use Rattle.text.specs.Text.{numbers}
 use Rattle.text.specs.Written.{Written}
-use Rattle.text.proofs.TextLaws.{numbers_none, numbers_then, ended_then, number_fits, newline_fits}
 use Rattle.text.proofs.put_path.Given as goal
 
 abbrev pub invariant-loop-i : goal.invariant-loop-i

@@ -1,9 +1,6 @@
-use mathlib.Core.Path.{◌≡◌, refl}
-use Prim.Native.Nat.{◌+◌, ◌-◌, ◌≤◌}
+use mathlib.Core.Path.{refl}
 use native.Mathlib.Nat.{add-zero}
 use native.Mathlib.Omega.{arith}
-use lib.ListN.{length, take}
-use Rattle.text.specs.Written.{Written}
 use Rattle.text.proofs.TextLaws.{written_none, written_length, word_more, word_byte, word_whole}
 use Rattle.text.proofs.put_word.Goals as goal
 

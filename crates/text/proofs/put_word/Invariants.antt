@@ -1,11 +1,8 @@
 -- After i turns the first i bytes of the word are put; a turn puts one more.
-use mathlib.Core.Path.{◌≡◌, refl}
+use mathlib.Core.Path.{◌≡◌}
 use Prim.Native.Nat.{◌+◌, ◌-◌, ◌≤◌}
-use native.Mathlib.Nat.{add-zero}
-use native.Mathlib.Omega.{arith}
 use lib.ListN.{length, take}
 use Rattle.text.specs.Written.{Written}
-use Rattle.text.proofs.TextLaws.{written_none, written_length, word_more, word_byte, word_whole}
 use Rattle.text.proofs.put_word.Given as goal
 
 abbrev pub invariant-loop-i : goal.invariant-loop-i
