@@ -36,4 +36,5 @@ module _ (job room after : List ℕ) (k n r : ℕ) (looked : n ≡ min (length j
   pub newline_put : (take (r + 1) (set after r 10) ≡ text_of (take k job) ++ newline) × (r + 1 ≤ length (set after r 10))
   newline_put =
       let same : take k job ≡ take n job = rw looked (sym (take_min k job)) in
-      rw same (byte_behind _ _ text_place after r put.taken put.room 10)
+      let put_behind = byte_behind _ _ text_place after r put.taken put.room 10 in
+      (rw same put_behind.0, put_behind.1.0)
