@@ -9,7 +9,7 @@ use mathlib.Core.List.{List, [], ◌∷◌, ◌++◌, reverse, reverse-reverse, 
 use Prim.Native.Nat.{ℕ, suc}
 use lib.ListN.{length}
 use lib.Seq.{ext_get_or}
-use Rattle.cuts.specs.Cut.{at, Within}
+use Rattle.cuts.specs.Cut.{Within}
 use Rattle.cuts.specs.Way.{cut_of, Along, Begins, whole, longer}
 use Rattle.cuts.specs.Verdict.{Lattice, IsPath, Meets, Poss, Def, Shown, PossIs, DefIs}
 use Rattle.cuts.specs.Computed.{def_of}

@@ -8,7 +8,7 @@ use native.Mathlib.Decide.{dec_lt}
 use native.Mathlib.Numerals.{add-one}
 use native.Mathlib.Omega.{arith}
 use lib.ListN.{length, take, drop, set, replicate, take-append-drop, length-append, length-drop, length-set, length-replicate, get_or-replicate, replicate-append-replicate, get_or-append, get_or-eq_default}
-use lib.Seq.{length-take-le, take_at, drop_at, drop-set-lt, drop-append-add, drop-drop, get_or-append-add, get_or-drop, set-get_or}
+use lib.Seq.{length-take-le, drop_at, drop-set-lt, drop-append-add, drop-drop, get_or-append-add, get_or-drop, set-get_or}
 use Rattle.cuts.specs.Below.{tab}
 use Rattle.cuts.specs.Cut.{at}
 use Rattle.cuts.specs.Rank.{weight, unrank, box}

@@ -28,8 +28,7 @@ pub shape_of-room : goal.shape_of-room
 shape_of-room c = omega arith
 
 pub returns : goal.returns
-returns c =
-    (
-      ends_are _ _ _ _ _ _ _ _ _ c.record_bit-i.ensures.0 c.bytes_for-bytes.ensures.0 c.put.ensures.bytes c.put-2.ensures.bytes,
-      c.bytes_for-bytes.ensures.0 ∙ ap bytes_for c.record_bit-i.ensures.0,
-    )
+returns c = (
+  ends_are _ _ _ _ _ _ _ _ _ c.record_bit-i.ensures.0 c.bytes_for-bytes.ensures.0 c.put.ensures.bytes c.put-2.ensures.bytes,
+  c.bytes_for-bytes.ensures.0 ∙ ap bytes_for c.record_bit-i.ensures.0,
+)
