@@ -74,7 +74,7 @@ fn read_job<R: Read>(most: usize, input: &mut R, room: &mut [u8]) -> io::Result<
 fn printed(job: &[u8], room: &mut [u8]) -> usize
     requires { 4141 ≡ length room.old }
     ensures room_after { take result room.new ≡ text_of (take 22500 job.now) ++ newline }
-    ensures prefix_len { result ≤ length room.new }
+    ensures prefix_len { (result ≤ length room.new) × (result ≡ length (take result room.new)) }
 {
     let k = reply::answer(&job[..looked_at(job.len())], room);
     room[k] = b'\n';

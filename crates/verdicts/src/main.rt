@@ -24,7 +24,7 @@ fn main(rt: HostRuntime) -> io::Result<()> {
 fn printed(job: &[u8], room: &mut [u8]) -> usize
     requires { 4140 ≡ length room.old }
     ensures value { (result ≡ length (text_of job.now)) × (take result room.new ≡ text_of job.now) }
-    ensures prefix_len { result ≤ length room.new }
+    ensures prefix_len { (result ≤ length room.new) × (result ≡ length (take result room.new)) }
 {
     reply::answer(job, room)
 }

@@ -16,4 +16,4 @@ pub returns-clause-room_after : goal.returns-clause-room_after
 returns-clause-room_after c = (newline_put _ _ _ _ _ _ c.looked_at.ensures c.requires c.answer-k.ensures).0
 
 pub returns-clause-prefix_len : goal.returns-clause-prefix_len
-returns-clause-prefix_len c = (newline_put _ _ _ _ _ _ c.looked_at.ensures c.requires c.answer-k.ensures).1.0
+returns-clause-prefix_len c = (newline_put _ _ _ _ _ _ c.looked_at.ensures c.requires c.answer-k.ensures).1
