@@ -1,7 +1,7 @@
 // Reads a stream of jobs on standard input, each preceded by its length in two bytes, high first, and prints the reply to each, followed by an empty line.
 #![tactic(auto)]
 
-ghost use Rattle.std.specs.Prelude.{◌≡◌, ◌++◌, ◌+◌, ◌*◌, ◌<◌, ◌≤◌, min, length, take, IfOk};
+ghost use Rattle.std.specs.Prelude.{◌≡◌, ℕ, ◌++◌, ◌+◌, ◌*◌, ◌<◌, ◌≤◌, min, length, take, IfOk, OnErr};
 ghost use Rattle.std.specs.Io.{ReadsAtMost};
 ghost use Rattle.std.specs.Io.KnownBytes.{Consumes, IsAtEnd};
 ghost use Rattle.text.specs.Text.{newline};
@@ -66,6 +66,7 @@ fn read_job<R: Read>(most: usize, input: &mut R, room: &mut [u8]) -> io::Result<
     ensures bytes { IfOk result (λ n. Consumes (R.remaining input.old) (R.remaining input.new) (take n room.new)) }
     ensures most { IfOk result (λ n. n ≤ most) }
     ensures end { IfOk result (λ n. n < most → IsAtEnd (R.remaining input.new)) }
+    ensures err { OnErr result ((n : ℕ) × (n ≤ most) × Consumes (R.remaining input.old) (R.remaining input.new) (take n room.new)) }
 {
     reading::read_full(input, &mut room[..most])
 }
