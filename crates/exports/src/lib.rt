@@ -1,4 +1,4 @@
-// The entry that the benchmark calls from C.
+// What the benchmark asks of a job, as one number: `exports_c` hands it to C.
 #![tactic(auto)]
 
 ghost use Rattle.std.specs.Prelude.{◌≡◌};
@@ -7,8 +7,7 @@ ghost use Rattle.exports.specs.Exports.{verdict_number, JudgeExported};
 use recording::Checked;
 
 // The verdicts of a job, with its marks and path in the fronts of the rooms: 0 if it is refused, else 1, and 2 more if Poss is yes, 4 more if Def is.
-#[unsafe(no_mangle)]
-pub extern "C" fn filebramble_judge(job: &[u8], marks: &mut [u8], path: &mut [u8]) -> u8
+pub fn filebramble_judge(job: &[u8], marks: &mut [u8], path: &mut [u8]) -> u8
     ensures { JudgeExported job.now marks.old path.old result marks.new path.new }
 {
     let r = engine::judge(job, marks, path);
