@@ -1,7 +1,7 @@
 // Reads a stream of jobs on standard input, each preceded by its length in two bytes, high first, and prints the reply to each, followed by an empty line.
 #![tactic(auto)]
 
-ghost use Rattle.std.specs.Prelude.{◌≡◌, ℕ, ◌++◌, ◌+◌, ◌*◌, ◌<◌, ◌≤◌, min, length, take, IfOk, OnErr};
+ghost use Rattle.std.specs.Prelude.{◌≡◌, ℕ, ◌++◌, ◌<◌, ◌≤◌, length, take, IfOk, OnErr};
 ghost use Rattle.std.specs.Io.{ReadsAtMost};
 ghost use Rattle.std.specs.Io.KnownBytes.{Consumes, IsAtEnd};
 ghost use Rattle.text.specs.Text.{newline};
@@ -37,7 +37,7 @@ fn answer_next<R: Read, W: Write>(input: &mut R, output: &mut W) -> io::Result<b
     if reading::read_full(input, &mut head)? == 0 {
         return Ok(false);
     }
-    answer_job(length_of(head[0], head[1]), input, output)?;
+    answer_job(reading::length_of(head), input, output)?;
     Ok(true)
 }
 
@@ -50,13 +50,6 @@ fn answer_job<R: Read, W: Write>(most: usize, input: &mut R, output: &mut W) -> 
     let mut room = [0u8; LONGEST];
     let k = printed(&job[..n], &mut room);
     output.write_all(&room[..k])
-}
-
-// The length that a job's two bytes say, high first.
-fn length_of(high: u8, low: u8) -> usize
-    ensures { (result ≡ high * 256 + low) × (result ≤ 65535) }
-{
-    high as usize * 256 + low as usize
 }
 
 // Reads a job of at most that many bytes into the front of the room; how many bytes there were.
@@ -77,17 +70,7 @@ fn printed(job: &[u8], room: &mut [u8]) -> usize
     ensures room_after { take result room.new ≡ text_of (take 22500 job.now) ++ newline }
     ensures prefix_len { (result ≤ length room.new) × (result ≡ length (take result room.new)) }
 {
-    let k = reply::answer(&job[..looked_at(job.len())], room);
+    let k = reply::answer(&job[..job.len().min(LOOKED_AT)], room).unwrap();
     room[k] = b'\n';
     k + 1
-}
-
-// How many bytes of a job of n are looked at.
-fn looked_at(n: usize) -> usize
-    ensures { result ≡ min n 22500 }
-{
-    if n < LOOKED_AT {
-        return n;
-    }
-    LOOKED_AT
 }

@@ -1,7 +1,7 @@
 -- Laws of fields of bits, at any width. In order: a power of 2; a bit and a field; fields that join and fields of the same bits; whole
 -- bytes; what is looked at; what is taken; two replies. Putting a field is in the crate `put`. Assumes nothing.
 use mathlib.Core.Path.{◌≡◌, refl, sym, ◌∙◌}
-use mathlib.Core.Bool.{Bool, true, false, ◌&&◌, cond, and-eq-true_iff, false≢true}
+use mathlib.Core.Bool.{true, ◌&&◌, and-eq-true_iff}
 use mathlib.Core.Logic.{◌↔◌, ◌⊎◌, inl, inr, ⊎_elim}
 use mathlib.Core.List.{List}
 use Prim.Native.Nat.{ℕ, zero, suc, ◌+◌, ◌-◌, ◌*◌, ◌/◌, ◌%◌, ◌^◌, ◌≤◌, ◌<◌, min}
@@ -16,7 +16,8 @@ use lib.Seq.{get_or-take, ext_get_or}
 use borrow.Author.Tests.{le-leb, lt-leb, leb-true}
 use Rattle.cuts.proofs.ReplyLaws.{refuted, replies_equal}
 use Rattle.bits.specs.Bits.{bit_at, field, peeked, is_field, taken_of, left_of}
-use Rattle.bits.specs.declared.Taken.{Taken}
+use Rattle.std.proofs.Common.{Some, None}
+use Rattle.std.proofs.lemmas.Option.{cond_some, none-some}
 
 -- 1 shifted by at most 16 is 2 ^ k: no bit is lost
 pub one_shifted : (k : ℕ) → k ≤ 16 → 1 * 2 ^ k % 2 ^ 64 ≡ 2 ^ k
@@ -136,25 +137,23 @@ is_field-fits s at k h =
 
 -- nothing is taken where one of the tests fails
 pub taken_of-none : (s : List ℕ) (at k : ℕ) → (1 ≤ k → k ≤ 16 → at + k ≤ min (8 * length s) 0xffff_ffff_ffff_ffff → ⊥)
-    → Taken.Nothing ≡ taken_of s at k
+    → None ≡ taken_of s at k
 unfolding taken_of
 taken_of-none s at k h = rw (refuted (is_field s at k) (λ t. let f = is_field-fits s at k t in h f.0 f.1 f.2)) refl
 
 pub taken_of-some : (s : List ℕ) (at k : ℕ) → 1 ≤ k → k ≤ 16 → at + k ≤ min (8 * length s) 0xffff_ffff_ffff_ffff
-    → Taken.Field (field s at k) (at + k) ≡ taken_of s at k
+    → Some (field s at k) ≡ taken_of s at k
 unfolding taken_of is_field
 taken_of-some s at k h₁ h₂ h₃ = simp (le-leb _ _ h₁, le-leb _ _ h₂, le-leb _ _ h₃)
 
 -- what a field that was taken says
-pub taken_of-field : (s : List ℕ) (at k v n : ℕ) → Taken.Field v n ≡ taken_of s at k
-    → (v ≡ field s at k) × (n ≡ at + k) × (1 ≤ k) × (k ≤ 16) × (at + k ≤ min (8 * length s) 0xffff_ffff_ffff_ffff)
+pub taken_of-field : (s : List ℕ) (at k v : ℕ) → Some v ≡ taken_of s at k
+    → (v ≡ field s at k) × (1 ≤ k) × (k ≤ 16) × (at + k ≤ min (8 * length s) 0xffff_ffff_ffff_ffff)
 unfolding taken_of
-taken_of-field s at k v n = go (is_field s at k) refl
-  where
-    go : (b : Bool) → is_field s at k ≡ b → Taken.Field v n ≡ cond b (Taken.Field (field s at k) (at + k)) Taken.Nothing
-        → (v ≡ field s at k) × (n ≡ at + k) × (1 ≤ k) × (k ≤ 16) × (at + k ≤ min (8 * length s) 0xffff_ffff_ffff_ffff)
-    go true t e = let f = is_field-fits s at k t in (cc, cc, f.0, f.1, f.2)
-    go false t e = let z : ◌≡◌ {A = ℕ} 0 1 = cc in absurd (omega arith)
+taken_of-field s at k v e =
+    let (t, f) = cond_some (is_field s at k) (field s at k) v (sym e) in
+    let g = is_field-fits s at k t in
+    (sym f, g.0, g.1, g.2)
 
 -- what can be taken is what is left
 pub left_of-fits : (s : List ℕ) (at k : ℕ) → 1 ≤ k → k ≤ left_of s at → at + k ≤ min (8 * length s) 0xffff_ffff_ffff_ffff
@@ -165,29 +164,9 @@ pub fits-left_of : (s : List ℕ) (at k : ℕ) → at + k ≤ min (8 * length s)
 unfolding left_of
 fits-left_of s at k h = omega arith
 
--- what is taken, by a test of what is left: the field where it answers yes ..
-pub tested_some : (s : List ℕ) (at k l : ℕ) → l ≡ left_of s at → (leb 1 k && leb k 16 && leb k l) ≡ true
-    → (1 ≤ k) × (k ≤ 16) × (at + k ≤ min (8 * length s) 0xffff_ffff_ffff_ffff)
-tested_some s at k l e h =
-    let p = (and-eq-true_iff (leb 1 k && leb k 16) (leb k l)).0 h in
-    let q = (and-eq-true_iff (leb 1 k) (leb k 16)).0 p.0 in
-    let b : 1 ≤ k = leb-true 1 k q.0 in
-    (b, leb-true k 16 q.1, left_of-fits s at k b (rw e at (leb-true k l p.1)))
-
-pub tested_field : (s : List ℕ) (at k l v : ℕ) → l ≡ left_of s at → (leb 1 k && leb k 16 && leb k l) ≡ true → v ≡ peeked s at k
-    → Taken.Field v (at + k) ≡ taken_of s at k
-tested_field s at k l v e h p =
-    let (h₁, h₂, h₃) = tested_some s at k l e h in
-    rw (p, peeked_field s at k h₂) (taken_of-some s at k h₁ h₂ h₃)
-
--- .. and nothing where no
-pub tested_none : (s : List ℕ) (at k l : ℕ) → l ≡ left_of s at → (leb 1 k && leb k 16 && leb k l) ≡ false → Taken.Nothing ≡ taken_of s at k
-tested_none s at k l e h =
-    taken_of-none s at k λ h₁ h₂ h₃. false≢true (sym h ∙ rw (le-leb 1 k h₁, le-leb k 16 h₂, le-leb k l (rw (← e) at (fits-left_of s at k h₃))) refl)
-
--- Nothing, exactly if k is not 1 to 16, the field does not end within s, or the next place is above the largest usize
+-- None, exactly if k is not 1 to 16, the field does not end within s, or the next place is above the largest usize
 pub take_none : (s : List ℕ) (at k : ℕ)
-    → (taken_of s at k ≡ Taken.Nothing) ↔ ((k < 1) ⊎ ((16 < k) ⊎ ((8 * length s < at + k) ⊎ (0xffff_ffff_ffff_ffff < at + k))))
+    → (taken_of s at k ≡ None) ↔ ((k < 1) ⊎ ((16 < k) ⊎ ((8 * length s < at + k) ⊎ (0xffff_ffff_ffff_ffff < at + k))))
 take_none s at k = (
   λ e. refused e (dec_lt k 1) (dec_lt 16 k) (dec_lt (8 * length s) (at + k)) (dec_lt 0xffff_ffff_ffff_ffff (at + k)),
   λ d.
@@ -196,16 +175,14 @@ take_none s at k = (
       ⊎_elim (λ a. omega arith) (⊎_elim (λ a. omega arith) (⊎_elim (λ a. omega arith) (λ a. omega arith))) d),
 )
   where
-    refused : taken_of s at k ≡ Taken.Nothing → Dec (k < 1) → Dec (16 < k) → Dec (8 * length s < at + k) → Dec (0xffff_ffff_ffff_ffff < at + k)
+    refused : taken_of s at k ≡ None → Dec (k < 1) → Dec (16 < k) → Dec (8 * length s < at + k) → Dec (0xffff_ffff_ffff_ffff < at + k)
         → (k < 1) ⊎ ((16 < k) ⊎ ((8 * length s < at + k) ⊎ (0xffff_ffff_ffff_ffff < at + k)))
     refused e (yes a) _ _ _ = inl a
     refused e (no _) (yes a) _ _ = inr (inl a)
     refused e (no _) (no _) (yes a) _ = inr (inr (inl a))
     refused e (no _) (no _) (no _) (yes a) = inr (inr (inr a))
     refused e (no a) (no b) (no c) (no d) =
-        let f : Taken.Field (field s at k) (at + k) ≡ taken_of s at k = taken_of-some s at k (omega arith) (omega arith) (omega arith) in
-        let z : ◌≡◌ {A = ℕ} 0 1 = cc in
-        absurd (omega arith)
+        absurd (none-some _ (sym e ∙ sym (taken_of-some s at k (omega arith) (omega arith) (omega arith))))
 
 pub peek_unique : (s : List ℕ) (at k r r' : ℕ) → r ≡ peeked s at k → r' ≡ peeked s at k → r ≡ r'
 peek_unique s at k r r' = replies_equal

@@ -1,3 +1,2 @@
 pub mod BitsLaws
 pub mod ReaderLaws
-pub mod ReaderWalk

@@ -1,8 +1,7 @@
 -- Fields of bits in a list of bytes: document 01, "most significant bit first".
 -- In order: a bit, a field; taking a field; the bit reader, what it takes and what is left. Putting a field is in the crate `put`.
-use Rattle.std.specs.Prelude.{◌≡◌, Bool, ◌&&◌, cond, List, ℕ, zero, suc, ◌+◌, ◌-◌, ◌*◌, ◌/◌, ◌%◌, ◌^◌, min, leb, length, get_or}
+use Rattle.std.specs.Prelude.{◌≡◌, Bool, ◌&&◌, cond, List, ℕ, zero, suc, ◌+◌, ◌-◌, ◌*◌, ◌/◌, ◌%◌, ◌^◌, min, leb, length, get_or, Option, Some, None}
 use Rattle.bits.specs.declared.BitReader.{BitReader}
-use Rattle.bits.specs.declared.Taken.{Taken}
 
 -- bit i of s, the most significant of each byte first; 0 past the end
 unfoldable pub bit_at : List ℕ → ℕ → ℕ
@@ -21,21 +20,21 @@ peeked s at k = cond (leb k 16) (field s at k) 0
 unfoldable pub is_field : List ℕ → ℕ → ℕ → Bool
 is_field s at k = leb 1 k && leb k 16 && leb (at + k) (min (8 * length s) 0xffff_ffff_ffff_ffff)
 
--- the field and the next place; else it "takes none and says so"
-unfoldable pub taken_of : List ℕ → ℕ → ℕ → Taken
-taken_of s at k = cond (is_field s at k) (Taken.Field (field s at k) (at + k)) Taken.Nothing
+-- the field; else it "takes none and says so"
+unfoldable pub taken_of : List ℕ → ℕ → ℕ → Option ℕ
+taken_of s at k = cond (is_field s at k) (Some (field s at k)) None
 
--- the place after a take from place `at` that found t: "takes none" leaves it
-unfoldable pub place_after : ℕ → Taken → ℕ
-place_after at (Taken.Field v next) = next
-place_after at Taken.Nothing = at
+-- the place after k bits are asked from place `at` on and t is found: "takes none" leaves it
+unfoldable pub place_after : ℕ → ℕ → Option ℕ → ℕ
+place_after at k (Some v) = at + k
+place_after at k None = at
 
 -- the reader after k bits are asked of it: the same lent bytes, and the bits then taken
 unfoldable pub moved : BitReader → ℕ → BitReader
-moved r k = record { bytes = r.bytes; taken = place_after r.taken (taken_of r.bytes.now r.taken k) }
+moved r k = record { bytes = r.bytes; taken = place_after r.taken k (taken_of r.bytes.now r.taken k) }
 
 -- the reply t to asking k bits of the reader r, and the whole reader after it
-pub record Takes (r : BitReader) (k : ℕ) (t : Taken) (after : BitReader) : Type 0 where
+pub record Takes (r : BitReader) (k : ℕ) (t : Option ℕ) (after : BitReader) : Type 0 where
   pub said : t ≡ taken_of r.bytes.now r.taken k
   pub reader : after ≡ moved r k
 

@@ -1,7 +1,8 @@
 -- What breaks the condition's section: `Broken` of specs/Condition.antt is where `condition_ok` is false. In order: pairs of ends; what a condition that keeps
 -- to its section has where; that no broken one keeps to it; that one that does not is broken. Assumes nothing.
-use Rattle.std.proofs.Common.{◌≡◌, ℕ, zero, suc, ◌<◌, ◌≤◌, Bool, true, false, cond, not, ◌&&◌, ◌||◌, eqb, ltb, leb, ◌≢◌, List, ℤ, pos, negsuc, sym, refl, ◌∙◌, inl, inr, ⊎_elim, arith, le-ltb, lt-ltb, eq-eqb, ne_eqb, eqb-true, le-leb}
+use Rattle.std.proofs.Common.{◌≡◌, ℕ, zero, suc, ◌<◌, ◌≤◌, Bool, true, false, cond, not, ◌&&◌, eqb, ltb, leb, ◌≢◌, List, ℤ, pos, negsuc, sym, refl, ◌∙◌, inl, inr, ⊎_elim, arith, le-ltb, lt-ltb, eq-eqb, ne_eqb, eqb-true, le-leb}
 use mathlib.Core.Bool.{false≢true}
+use Rattle.std.proofs.lemmas.Bool.{or_parts}
 use native.Mathlib.Decide.{dec_le, dec_lt}
 use lib.Signed.{le_z, lt_z}
 use borrow.Author.Tests.{lt-leb, eqb-false, not-false}
@@ -49,10 +50,6 @@ not_zeros low high h = go (dec_lt 0 low) (dec_lt 0 high)
 
 some_zero : (low high : ℕ) → NotZero low high → (low ≡ 0) × (high ≡ 0) → ⊥
 some_zero low high n (a, b) = ⊎_elim (λ l. omega arith) (λ l. omega arith) n
-
-or_false : (a b : Bool) → (a || b) ≡ false → (a ≡ false) × (b ≡ false)
-or_false true b h = absurd (false≢true (sym h))
-or_false false b h = (refl, h)
 
 -- where a test of all fails it fails at one
 every_fails : (n : ℕ) (f : ℕ → Bool) → every n f ≡ false → (p : ℕ) × (p < n) × (f p ≡ false)
@@ -118,7 +115,7 @@ module _ (s : List ℕ) where
   k_broken : k_ok s ≡ false → Broken s
   unfolding k_ok
   k_broken e =
-      let (a, b) = or_false (eqb (kind_at s) 1) (eqb (k_at s) 0) e in
+      let (a, b) = or_parts (eqb (kind_at s) 1) (eqb (k_at s) 0) e in
       k_unused (eqb-false _ _ a) (omega (arith, eqb-false (k_at s) 0 b))
 
   ends_broken : ends_ok s ≡ false → Broken s

@@ -1,6 +1,8 @@
 -- The condition is the law's: specs/Condition.antt read in the law's words. In order: what is refused; what a condition that is accepted says; when a
 -- condition holds; the range of its sum; that two replies are equal. Assumes nothing.
-use Rattle.std.proofs.Common.{◌≡◌, ℕ, zero, suc, ◌+◌, ◌*◌, ◌<◌, ◌≤◌, Bool, true, false, cond, ◌&&◌, leb, ◌↔◌, List, length, ℤ, pos, negsuc, ◌+ℤ◌, sym, refl, ap, ◌∙◌, arith, le-leb}
+use Rattle.std.specs.Prelude.{Result, Ok, Err, is_ok}
+use Rattle.std.specs.Result.{result_unwrap_or, result_map_both}
+use Rattle.std.proofs.Common.{subst, ◌≡◌, ℕ, zero, suc, ◌+◌, ◌*◌, ◌<◌, ◌≤◌, Bool, true, false, cond, ◌&&◌, leb, ◌↔◌, List, length, ℤ, pos, negsuc, ◌+ℤ◌, sym, refl, ap, ◌∙◌, arith, le-leb}
 use mathlib.Core.Bool.{false≢true}
 use native.Mathlib.Decide.{dec_le}
 use lib.IntN.{sub_ℕ}
@@ -12,21 +14,27 @@ use Rattle.cuts.specs.Cut.{at}
 use Rattle.cuts.proofs.ReplyLaws.{replies_equal}
 use Rattle.condition.specs.Condition.{kind_at, k_at, low_at, high_at, window_low, window_high, condition_ok, kind_of, window_of, condition_of, refused_of, read_of}
 use Rattle.condition.specs.Condition.{bound_of, paper_of, window_at, no_window, between, lies, inside, sum_asked, holds_by, holds_of, Says, Broken}
+use Rattle.refusal.specs.Refusal.{Tested, number_of}
+use Rattle.refusal.specs.declared.Reason.{Reason}
 use Rattle.condition.specs.declared.Kind.{Kind}
 use Rattle.condition.specs.declared.Limits.{Limits}
-use Rattle.condition.specs.declared.Reading.{Reading}
 use Rattle.condition.specs.declared.Condition.{Condition}
 use Rattle.condition.specs.Weigh.{weigh_of, limits_of}
 use Rattle.condition.proofs.WeighRight.{count, count_le, sum_asked-excess}
 use Rattle.condition.proofs.FieldLaws.{Kept, refused_of-short, refused_of-broken, refused_of-good, read_of-refused, read_of-good, condition_ok-kept, bound_raised, kind_of-zero, kind_of-one, kind_of-two}
 use Rattle.condition.proofs.BrokenLaws.{kept_k, kept_ends_zero, not_kept_broken, broken_refuted}
 
+-- the law's number of an answer, 0 of one that refuses nothing
+abbrev number_in : Tested → ℕ
+number_in (Ok u) = 0
+number_in (Err k) = number_of k
+
 module _ (s : List ℕ) where
   -- the three answers, each with its reason
   data Judged : Type 0 where
-    short : length s < 38 → refused_of s ≡ 1 → Judged
-    broke : 38 ≤ length s → Broken s → refused_of s ≡ 8 → Judged
-    good : 38 ≤ length s → ¬ Broken s → refused_of s ≡ 0 → Judged
+    short : length s < 38 → refused_of s ≡ Err Reason.TooShort → Judged
+    broke : 38 ≤ length s → Broken s → refused_of s ≡ Err Reason.Condition → Judged
+    good : 38 ≤ length s → ¬ Broken s → refused_of s ≡ Ok tt → Judged
 
   judged : Judged
   judged = go (dec_le 38 (length s)) (condition_ok s) refl
@@ -36,34 +44,41 @@ module _ (s : List ℕ) where
       go (yes l) false e = broke l (not_kept_broken s e) (refused_of-broken s l e)
       go (yes l) true e = good l (λ b. false≢true (sym (broken_refuted s b) ∙ e)) (refused_of-good s l e)
 
+  -- two answers that are one have one number
+  apart : {t u : Tested} → refused_of s ≡ t → refused_of s ≡ u → number_in t ≡ number_in u
+  apart d e = ap number_in (sym d ∙ e)
+
   -- "fewer than 38 bytes (1)"
-  pub refused_1 : (refused_of s ≡ 1) ↔ (length s < 38)
+  pub refused_1 : (refused_of s ≡ Err Reason.TooShort) ↔ (length s < 38)
+  unfolding number_of
   refused_1 = (go judged, refused_of-short s)
     where
-      go : Judged → refused_of s ≡ 1 → length s < 38
+      go : Judged → refused_of s ≡ Err Reason.TooShort → length s < 38
       go (short l r) e = l
-      go (broke l b r) e = absurd (omega arith)
-      go (good l n r) e = absurd (omega arith)
+      go (broke l b r) e = absurd (omega (arith, apart r e))
+      go (good l n r) e = absurd (omega (arith, apart r e))
 
   -- 8 is given exactly where 38 bytes are there and "the condition breaks its section"
-  pub refused_8 : (refused_of s ≡ 8) ↔ ((38 ≤ length s) × Broken s)
+  pub refused_8 : (refused_of s ≡ Err Reason.Condition) ↔ ((38 ≤ length s) × Broken s)
+  unfolding number_of
   refused_8 = (go judged, λ x. refused_of-broken s x.0 (broken_refuted s x.1))
     where
-      go : Judged → refused_of s ≡ 8 → (38 ≤ length s) × Broken s
-      go (short l r) e = absurd (omega arith)
+      go : Judged → refused_of s ≡ Err Reason.Condition → (38 ≤ length s) × Broken s
+      go (short l r) e = absurd (omega (arith, apart r e))
       go (broke l b r) e = (l, b)
-      go (good l n r) e = absurd (omega arith)
+      go (good l n r) e = absurd (omega (arith, apart r e))
 
   -- and else nothing is refused
-  pub refused_0 : (refused_of s ≡ 0) ↔ ((38 ≤ length s) × ¬ Broken s)
+  pub refused_0 : (refused_of s ≡ Ok tt) ↔ ((38 ≤ length s) × ¬ Broken s)
+  unfolding number_of
   refused_0 = (go judged, back judged)
     where
-      go : Judged → refused_of s ≡ 0 → (38 ≤ length s) × ¬ Broken s
-      go (short l r) e = absurd (omega arith)
-      go (broke l b r) e = absurd (omega arith)
+      go : Judged → refused_of s ≡ Ok tt → (38 ≤ length s) × ¬ Broken s
+      go (short l r) e = absurd (omega (arith, apart r e))
+      go (broke l b r) e = absurd (omega (arith, apart r e))
       go (good l n r) e = (l, n)
 
-      back : Judged → (38 ≤ length s) × ¬ Broken s → refused_of s ≡ 0
+      back : Judged → (38 ≤ length s) × ¬ Broken s → refused_of s ≡ Ok tt
       back (short l r) x = absurd (omega arith)
       back (broke l b r) x = absurd (x.1 b)
       back (good l n r) x = r
@@ -91,25 +106,27 @@ module _ (s : List ℕ) where
     high_is = λ p l. ap (λ w. bound_of w.high) (get_d-tab 8 (window_of s) no_window p l) ∙ bound_raised (window_high s p);
   }
 
-  -- the reply's number
-  pub read_refused : (read_of s).refused ≡ refused_of s
+  -- the reply refuses what is refused, for the same reason ..
+  pub read_refused : result_map_both (λ _. tt) (λ k. k) (read_of s) ≡ refused_of s
   read_refused = go judged
     where
-      go : Judged → (read_of s).refused ≡ refused_of s
-      go (short l r) = rw (r, read_of-refused s 0 r) refl
-      go (broke l b r) = rw (r, read_of-refused s 7 r) refl
-      go (good l n r) = rw (r, read_of-good s r) refl
+      go : Judged → result_map_both (λ _. tt) (λ k. k) (read_of s) ≡ refused_of s
+      go (short l r) = rw (read_of-refused s r, r) refl
+      go (broke l b r) = rw (read_of-refused s r, r) refl
+      go (good l n r) = rw (read_of-good s r, r) refl
 
-  -- a reply that accepts says what the bytes say
-  pub read_accepts : (read_of s).refused ≡ 0 → Says s (read_of s).condition
-  read_accepts e = rw (read_of-good s z) (read_says (go (condition_ok s) refl))
+  -- .. and a reply that accepts says what the bytes say
+  pub read_accepts : (c : Condition) → read_of s ≡ Ok c → Says s c
+  read_accepts c e = go judged
     where
-      z : refused_of s ≡ 0
-      z = sym read_refused ∙ e
-
-      go : (k : Bool) → condition_ok s ≡ k → k ≡ true
-      go true d = refl
-      go false d = absurd ((refused_0.0 z).1 (not_kept_broken s d))
+      go : Judged → Says s c
+      go (short l r) = absurd (false≢true (ap is_ok (sym (read_of-refused s r) ∙ e)))
+      go (broke l b r) = absurd (false≢true (ap is_ok (sym (read_of-refused s r) ∙ e)))
+      go (good l n r) = subst (λ c. Says s c) (ap (λ x. result_unwrap_or x c) (sym (read_of-good s r) ∙ e)) (read_says (kept (condition_ok s) refl))
+        where
+          kept : (k : Bool) → condition_ok s ≡ k → k ≡ true
+          kept true d = refl
+          kept false d = absurd (n (not_kept_broken s d))
 
 module _ (c : Condition) (v : ℕ → ℤ) where
   -- "With none asked it holds"
@@ -216,7 +233,7 @@ pub sum_ends : (c : Condition) → ((p : ℕ) → p < 8 → (window_at c p).aske
 sum_ends c h = (sum_alike c 0 2048 8 h, sum_alike c 2047 0 8 h)
 
 -- each entry's contract permits one reply
-pub read_unique : (s : List ℕ) (r r' : Reading) → r ≡ read_of s → r' ≡ read_of s → r ≡ r'
+pub read_unique : (s : List ℕ) (r r' : Result Condition Reason) → r ≡ read_of s → r' ≡ read_of s → r ≡ r'
 read_unique s r r' = replies_equal
 
 pub weigh_unique : (c : Condition) (p level r r' : ℕ) → r ≡ weigh_of c p level → r' ≡ weigh_of c p level → r ≡ r'

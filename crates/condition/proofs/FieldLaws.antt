@@ -1,22 +1,43 @@
--- Laws of the condition's fields. In order: ends of a window; the kind; a window; what is refused with 8; the value read. Assumes nothing.
-use Rattle.std.proofs.Common.{◌≡◌, ℕ, zero, suc, ◌+◌, ◌-◌, ◌*◌, ◌%◌, ◌<◌, ◌≤◌, Bool, true, false, cond, not, ◌&&◌, ◌||◌, eqb, ltb, leb, List, [], ◌∷◌, ◌++◌, length, drop, set, pos, sym, refl, ap, ◌∙◌, inl, inr, append-nil, le_of_eq, le_antisymm, add-one, arith, drop_of_length-le, le-ltb, lt-ltb, eq-eqb, ne_eqb, le-leb, leb-false, leb-true}
+-- Laws of the condition's fields. In order: a result by a test; pairs of ends; the kind; a window; what is refused with 8; a list that is filled; the value read. Assumes nothing.
+use Rattle.std.specs.Prelude.{if◌then◌else◌, Result, Ok, Err, is_ok, unwrap_or}
+use Rattle.std.specs.Result.{result_unwrap_or, result_err}
+use Rattle.std.proofs.Common.{◌≡◌, ℕ, zero, suc, ◌+◌, ◌-◌, ◌%◌, ◌<◌, ◌≤◌, Bool, true, false, cond, ◌&&◌, ◌||◌, eqb, ltb, leb, List, ◌++◌, length, drop, set, pos, sym, refl, ap, ◌∙◌, add-one, arith, le-ltb, lt-ltb, eq-eqb, ne_eqb, le-leb, leb-false, leb-true}
 use mathlib.Core.Bool as B
+use mathlib.Core.Bool.{false≢true}
 use native.Mathlib.Decide.{dec_lt}
 use lib.IntN.{sub_ℕ}
 use lib.Signed.{le_z}
 use borrow.Author.Tests.{lt-leb}
-use mir.Val.{bool_byte}
-use types.Run.{OneOf}
 use Rattle.cuts.specs.Below.{every, tab}
-use Rattle.bits.proofs.BitsLaws.{field_lt}
 use Rattle.levels.specs.Level.{twos}
 use Rattle.levels.proofs.LevelLaws.{sub_pos, sub_eq, sub_le}
 use Rattle.cuts.proofs.BelowLaws.{and_true, and_false, length_tab}
 use Rattle.cuts.proofs.TabLaws.{front_more}
-use Rattle.condition.specs.Condition.{bound_of, raised_of, upright, zeros, kind_at, k_at, low_at, high_at, kind_of, asked_at, window_low, window_high, window_ok, window_of, condition_ok, condition_of, refused_of, read_of, no_window, no_condition}
+use Rattle.condition.specs.Condition.{bound_of, raised_of, upright, zeros, kind_at, k_at, low_at, high_at, kind_of, asked_at, window_low, window_high, window_ok, pair_ok, head_ok, condition_ok, condition_of, refused_of, read_of}
+use Rattle.refusal.specs.declared.Reason.{Reason}
 use Rattle.condition.specs.declared.Kind.{Kind}
-use Rattle.condition.specs.declared.Window.{Window}
-use Rattle.condition.specs.declared.Reading.{Reading}
+
+-- a result that goes by a test
+module _ {A E : Type 0} {r : Result A E} where
+  pub ok_by : {b : Bool} {x y : A} (e : E) → r ≡ Ok x → r ≡ (if b then Ok y else Err e) → (b ≡ true) × (x ≡ y)
+  ok_by {b} {x} {y} e w h = go b (sym w ∙ h)
+    where
+      go : (b : Bool) → ◌≡◌ {A = Result A E} (Ok x) (if b then Ok y else Err e) → (b ≡ true) × (x ≡ y)
+      go true h = (refl, ap (λ (r : Result A E). result_unwrap_or r y) h)
+      go false h = absurd (false≢true (sym (ap is_ok h)))
+
+  pub err_by : {b : Bool} (y : A) {k e : E} → r ≡ Err k → r ≡ (if b then Ok y else Err e) → (b ≡ false) × (k ≡ e)
+  err_by {b} y {k} {e} w h = go b (sym w ∙ h)
+    where
+      go : (b : Bool) → ◌≡◌ {A = Result A E} (Err k) (if b then Ok y else Err e) → (b ≡ false) × (k ≡ e)
+      go true h = absurd (false≢true (ap is_ok h))
+      go false h = (refl, ap (λ (r : Result A E). unwrap_or (result_err r) e) h)
+
+pub ok_if : {A E : Type 0} {b : Bool} {x y : A} (e : E) → b ≡ true → x ≡ y → ◌≡◌ {A = Result A E} (Ok x) (if b then Ok y else Err e)
+ok_if e t h = rw (t, h) refl
+
+pub err_if : {A E : Type 0} {b : Bool} (y : A) {e : E} → b ≡ false → ◌≡◌ {A = Result A E} (Err e) (if b then Ok y else Err e)
+err_if y f = rw f refl
 
 -- tests of two numbers and of what is k above them
 pub leb_add : (a b k : ℕ) → leb (a + k) (b + k) ≡ leb a b
@@ -58,10 +79,17 @@ unfolding raised_of
 raised_zero zero h = refl
 raised_zero (suc n) h = rw (ne_eqb (raised_of (suc n)) 32768 (λ e. omega (arith, raised_wraps (suc n) h)), ne_eqb (suc n) 0 (λ e. omega arith)) refl
 
--- a pair of excess numbers is in order where the pair of ends is
-pub pair_raised : (used : Bool) (low high : ℕ) → low < 65536 → high < 65536
-    → cond used (leb (raised_of low) (raised_of high)) (eqb (raised_of low) 32768 && eqb (raised_of high) 32768) ≡ cond used (upright low high) (zeros low high)
-pair_raised used low high l h = rw (raised_upright low high, raised_zero low l, raised_zero high h) refl
+-- a pair of ends as the code judges it, by its excess numbers: used and not upside down ..
+module _ {low high : ℕ} (f g : ℕ) (l : low ≡ raised_of f) (h : high ≡ raised_of g) where
+  pub ends_up : low ≤ high → upright f g ≡ true
+  ends_up o = sym (raised_upright f g) ∙ (rw (l, h) at (le-leb low high o))
+
+  pub ends_down : high < low → upright f g ≡ false
+  ends_down o = sym (raised_upright f g) ∙ (rw (l, h) at (lt-leb low high o))
+
+  -- .. or not used and zero
+  pub ends_zeros : f < 65536 → g < 65536 → (eqb low 32768 && eqb high 32768) ≡ zeros f g
+  ends_zeros i j = rw (l, h, raised_zero f i, raised_zero g j) refl
 
 module _ (s : List ℕ) where
   pub kind_of-zero : kind_at s ≡ 0 → kind_of s (kind_at s) ≡ Kind.Together
@@ -90,30 +118,6 @@ module _ (s : List ℕ) (p : ℕ) where
   unfolding window_ok
   window_ok-other e = rw (ne_eqb _ _ e, B.and-true (asked_at s p)) refl
 
-  -- a window's test as the code makes it, of excess numbers
-  pub window_ok-read : {w : Window} {sum r : Bool} → w ≡ window_of s p → sum ≡ eqb (kind_at s) 2
-      → r ≡ cond (w.asked && not sum) (leb w.low w.high) (eqb w.low 32768 && eqb w.high 32768) → r ≡ window_ok s p
-  unfolding window_of window_ok window_low window_high
-  window_ok-read e d h =
-      (rw (e, d) at h) ∙ pair_raised (asked_at s p && not (eqb (kind_at s) 2)) _ _ (field_lt s (48 + 32 * p) 16) (field_lt s (64 + 32 * p) 16)
-
--- what is zero is at most 8
-zero_le : (k : ℕ) → eqb k 0 ≡ (leb k 8 && eqb k 0)
-zero_le zero = refl
-zero_le (suc k) = rw (ne_eqb (suc k) 0 (λ z. omega arith)) (sym (and_false (leb (suc k) 8)))
-
--- Together and Sum have no use for k
-pub k_unused : (kind k : ℕ) → OneOf (0 ∷ 2 ∷ []) kind → eqb k 0 ≡ (leb kind 2 && leb k 8 && (eqb kind 1 || eqb k 0))
-k_unused kind k (inl e) = rw e (zero_le k)
-k_unused kind k (inr e) = rw e (zero_le k)
-
--- and there is no kind beyond Sum
-pub kind_beyond : (kind k : ℕ) → (kind ≡ 1 → ⊥) → (OneOf (0 ∷ 2 ∷ []) kind → ⊥) → false ≡ (leb kind 2 && leb k 8 && (eqb kind 1 || eqb k 0))
-kind_beyond zero k n m = absurd (m (inl refl))
-kind_beyond (suc zero) k n m = absurd (n refl)
-kind_beyond (suc (suc zero)) k n m = absurd (m (inr refl))
-kind_beyond (suc (suc (suc j))) k n m = rw (lt-leb (suc (suc (suc j))) 2 (omega arith)) refl
-
 -- k is zero where the kind has no use for it
 unfoldable pub k_ok : List ℕ → Bool
 k_ok s = eqb (kind_at s) 1 || eqb (k_at s) 0
@@ -121,6 +125,16 @@ k_ok s = eqb (kind_at s) 1 || eqb (k_at s) 0
 -- low and high are in order for Sum, and zero for the other kinds
 unfoldable pub ends_ok : List ℕ → Bool
 ends_ok s = cond (eqb (kind_at s) 2) (upright (low_at s) (high_at s)) (zeros (low_at s) (high_at s))
+
+module _ (s : List ℕ) where
+  -- the tests before the windows, of the kind and the k that were read, where the ends r were good, and where they were not
+  module _ {kind k : ℕ} {r : Result (ℕ × ℕ) Reason} (i : kind ≡ kind_at s) (j : k ≡ k_at s)
+      (h : r ≡ (if pair_ok (eqb kind 2) (low_at s) (high_at s) then Ok (raised_of (low_at s), raised_of (high_at s)) else Err Reason.Condition)) where
+    pub head_good : {e : ℕ × ℕ} → r ≡ Ok e → head_ok s ≡ (leb kind 2 && leb k 8 && (eqb kind 1 || eqb k 0))
+    head_good w = rw (← i, ← j, (ok_by _ w h).0) (B.and-true (leb kind 2 && leb k 8 && (eqb kind 1 || eqb k 0)))
+
+    pub head_bad : {f : Reason} → r ≡ Err f → head_ok s ≡ false
+    head_bad w = rw (← i, ← j, (err_by _ w h).0) (and_false _)
 
 -- the condition keeps to its section, test by test
 pub record Kept (s : List ℕ) : Type 0 where
@@ -145,66 +159,31 @@ module _ (s : List ℕ) where
   unfolding condition_ok k_ok ends_ok
   condition_ok-windows h₁ h₂ h₃ h₄ = rw (le-leb _ _ h₁, le-leb _ _ h₂, h₃, h₄) refl
 
-  -- the section's tests as the code makes them: of kind and k, of Sum's ends as excess numbers, of the windows
-  pub condition_ok-read : {kind k low high : ℕ} {a b d : Bool} → kind ≡ kind_at s → k ≡ k_at s → low ≡ raised_of (low_at s) → high ≡ raised_of (high_at s)
-      → a ≡ (leb kind 2 && leb k 8 && (eqb kind 1 || eqb k 0)) → b ≡ cond (eqb kind 2) (leb low high) (eqb low 32768 && eqb high 32768)
-      → d ≡ every 8 (window_ok s) → (a && b && d) ≡ condition_ok s
-  unfolding condition_ok low_at high_at
-  condition_ok-read e₁ e₂ e₃ e₄ ea eb ed =
-      rw (ea, eb, ed, e₁, e₂, e₃, e₄, pair_raised (eqb (kind_at s) 2) (low_at s) (high_at s) (field_lt s 8 16) (field_lt s 24 16)) refl
-
--- a loop that fills an array d of eight windows from the first on, and beside a refusal takes no turn: the array w before turn k
-pub record Filled (refused : Bool) (f : ℕ → Window) (d w : List Window) (k : ℕ) : Type 0 where
-  pub from : cond refused 8 0 ≤ k
-  pub to : k ≤ 8
-  pub array : w ≡ cond refused d (tab k f ++ drop k d)
-
-pub filled_none : (refused : Bool) (f : ℕ → Window) (d : List Window) → Filled refused f d d (8 * bool_byte refused)
+-- a list w that was d, and whose first k elements are f's by now: one more
+pub filled_more : {A : Type 0} (k : ℕ) (f : ℕ → A) (d : List A) {w : List A} {a : A} → w ≡ tab k f ++ drop k d → a ≡ f k → k < length d
+    → set w k a ≡ tab (k + 1) f ++ drop (k + 1) d
 unfolding tab
-filled_none true f d = record { from = omega arith; to = omega arith; array = refl }
-filled_none false f d = record { from = omega arith; to = omega arith; array = refl }
-
-pub filled_more : (refused : Bool) (f : ℕ → Window) (d w : List Window) (k : ℕ) → Filled refused f d w k → k < 8 → length d ≡ 8
-    → Filled refused f d (set w k (f k)) (k + 1)
-unfolding tab
-filled_more true f d w k h l e = absurd (omega (arith, h.from))
-filled_more false f d w k h l e = record {
-  from = omega arith;
-  to = omega arith;
-  array = rw h.array (front_more (tab k f) d k (f k) no_window (length_tab k f) (omega arith) ∙ rw (add-one k) refl);
-}
-
-pub filled_full : (refused : Bool) (f : ℕ → Window) (d w : List Window) (k : ℕ) → Filled refused f d w k → 8 ≤ k → length d ≡ 8 → w ≡ cond refused d (tab 8 f)
-filled_full true f d w k h l e = h.array
-filled_full false f d w k h l e = h.array ∙ rw (le_antisymm h.to l, drop_of_length-le d (le_of_eq e)) (append-nil (tab 8 f))
+filled_more k f d e h l = rw (e, h) (front_more (tab k f) d k (f k) (f k) (length_tab k f) l ∙ rw (add-one k) refl)
 
 module _ (s : List ℕ) where
   -- the three answers
-  pub refused_of-short : length s < 38 → refused_of s ≡ 1
+  pub refused_of-short : length s < 38 → refused_of s ≡ Err Reason.TooShort
   unfolding refused_of
   refused_of-short h = rw (lt-leb 38 (length s) h) refl
 
-  pub refused_of-broken : 38 ≤ length s → condition_ok s ≡ false → refused_of s ≡ 8
+  pub refused_of-broken : 38 ≤ length s → condition_ok s ≡ false → refused_of s ≡ Err Reason.Condition
   unfolding refused_of
   refused_of-broken h e = rw (le-leb 38 (length s) h, e) refl
 
-  pub refused_of-good : 38 ≤ length s → condition_ok s ≡ true → refused_of s ≡ 0
+  pub refused_of-good : 38 ≤ length s → condition_ok s ≡ true → refused_of s ≡ Ok tt
   unfolding refused_of
   refused_of-good h e = rw (le-leb 38 (length s) h, e) refl
 
-  -- what stands beside them
-  pub read_of-refused : (n : ℕ) → refused_of s ≡ suc n → read_of s ≡ record { refused = suc n; condition = no_condition }
+  -- and what is read
+  pub read_of-refused : {k : Reason} → refused_of s ≡ Err k → read_of s ≡ Err k
   unfolding read_of
-  read_of-refused n e = rw (e, ne_eqb (suc n) 0 (λ z. omega arith)) refl
+  read_of-refused e = rw e refl
 
-  pub read_of-good : refused_of s ≡ 0 → read_of s ≡ record { refused = 0; condition = condition_of s }
+  pub read_of-good : refused_of s ≡ Ok tt → read_of s ≡ Ok (condition_of s)
   unfolding read_of
   read_of-good e = rw e refl
-
-  -- the value as the code puts it together: its number, its kind and its windows
-  pub read_of-parts : (k : ℕ) (kind : Kind) (windows : List Window) → k ≡ refused_of s → kind ≡ cond (not (eqb k 0)) Kind.Together (kind_of s (kind_at s))
-      → windows ≡ cond (not (eqb k 0)) (tab 8 (λ p. no_window)) (tab 8 (window_of s))
-      → ◌≡◌ {A = Reading} (record { refused = k; condition = record { kind = kind; windows = windows } }) (read_of s)
-  unfolding condition_of
-  read_of-parts zero kind windows e ek ew = rw (ek, ew) (sym (read_of-good (sym e)))
-  read_of-parts (suc n) kind windows e ek ew = rw (ek, ew, ne_eqb (suc n) 0 (λ z. omega arith)) (sym (read_of-refused n (sym e)))

@@ -1,14 +1,18 @@
--- Laws of what a station adds to the sum that decides. In order: the eight windows of a condition; a window's test; a test as a number; what a station adds.
+-- Laws of what a station adds to the sum that decides. In order: the eight windows of a condition; the asked ones, counted; a window's test; a test as a number; what a station adds.
 -- Assumes nothing.
-use Rattle.std.proofs.Common.{◌≡◌, ℕ, ◌+◌, ◌*◌, ◌≤◌, Bool, true, false, cond, ◌&&◌, leb, List, length, refl, ap, arith}
-use lib.ListN.{get_or-eq_default}
+use Rattle.std.proofs.Common.{◌≡◌, ℕ, ◌+◌, ◌≤◌, Bool, true, false, cond, ◌&&◌, leb, List, [], ◌∷◌, length, sym, ◌∙◌, refl, ap, arith}
+use Rattle.std.specs.List.{count_by}
+use Rattle.std.proofs.lemmas.List.Sums.{sum_by-cons}
+use lib.ListN.{get_or, get_or-eq_default}
 use mir.Val.{Val, bool_byte}
 use denote.Laws.{Is}
 use denote.Struct.Declared.{row}
+use Rattle.cuts.specs.Below.{sum_to}
+use Rattle.cuts.proofs.BelowLaws.{sum_to-first}
 use Rattle.levels.specs.Level.{level_of}
 use Rattle.levels.proofs.LevelLaws.{sub_le}
 use Rattle.condition.specs.Condition.{bound_of, between, lies, window_at, no_window}
-use Rattle.condition.specs.Weigh.{weigh_by, weigh_of}
+use Rattle.condition.specs.Weigh.{weigh_by, weigh_of, asked_of}
 use Rattle.condition.specs.declared.Window.{Window}
 use Rattle.condition.specs.declared.Kind.{Kind}
 use Rattle.condition.specs.declared.Condition.{Condition}
@@ -23,6 +27,17 @@ eight_windows c vs g = g.1.1.1.0.1.0.1
 pub unasked_beyond : (c : Condition) (p : ℕ) → length c.windows ≡ 8 → 8 ≤ p → (window_at c p).asked ≡ false
 unasked_beyond c p e h = ap (λ (w : Window). w.asked) (get_or-eq_default c.windows no_window (omega arith))
 
+-- a count of the elements that pass a test, as a sum over their places
+count_places : {A : Type 0} (f : A → Bool) (d : A) (xs : List A) → count_by f xs ≡ sum_to (length xs) (λ q. cond (f (get_or xs q d)) 1 0)
+unfolding sum_to
+count_places f d [] = refl
+count_places f d (x ∷ xs) = sum_by-cons (λ y. cond (f y) 1 0) x xs ∙ sym (sum_to-first (length xs) (λ q. cond (f (get_or (x ∷ xs) q d)) 1 0) ∙ ap (λ (n : ℕ). cond (f x) 1 0 + n) (sym (count_places f d xs)))
+
+-- the asked stations of a condition, counted window by window
+pub count_asked : (c : Condition) → length c.windows ≡ 8 → count_by (λ w. w.asked) c.windows ≡ asked_of c
+unfolding asked_of
+count_asked c e = rw (count_places (λ (w : Window). w.asked) no_window c.windows, e) refl
+
 -- a window's ends and a level, as excess numbers
 pub lies_excess : (w : Window) (x : ℕ) → lies w (level_of x) ≡ (leb w.low (x + 30720) && leb (x + 30720) w.high)
 unfolding lies between bound_of level_of
@@ -34,15 +49,6 @@ lies_excess w x =
 pub byte_one : (b : Bool) → bool_byte b ≡ cond b 1 0
 byte_one true = refl
 byte_one false = refl
-
-pub byte_le : (b : Bool) → bool_byte b ≤ 1
-byte_le true = omega arith
-byte_le false = omega arith
-
--- x or nothing is not above x
-pub times_le : (b : Bool) (x : ℕ) → bool_byte b * x ≤ x
-times_le true x = omega arith
-times_le false x = omega arith
 
 -- what a station adds, for a condition of kind k
 module _ (c : Condition) (p x : ℕ) where
@@ -67,16 +73,15 @@ module _ (c : Condition) (p x : ℕ) where
   inside_by (Kind.AtLeast k) o = rw (lies_excess (window_at c p) x) (byte_one (is_inside (window_at c p)))
   inside_by (Kind.Sum low high) o = absurd (o low high refl)
 
-  -- such a station adds 1, for Together and At least
-  pub weigh_inside : ((low high : ℕ) → c.kind ≡ Kind.Sum low high → ⊥) → bool_byte (is_inside (window_at c p)) ≡ weigh_of c p x
+  -- such a station adds 1, for Together and At least; w is its window as the code has it
+  pub weigh_inside : {w : Window} → w ≡ window_at c p → ((low high : ℕ) → c.kind ≡ Kind.Sum low high → ⊥) → bool_byte (is_inside w) ≡ weigh_of c p x
   unfolding weigh_of
-  weigh_inside o = inside_by c.kind o
+  weigh_inside e o = rw e (inside_by c.kind o)
 
-  -- and an asked one its level, for Sum
-  pub weigh_sum : {low high : ℕ} → c.kind ≡ Kind.Sum low high → bool_byte (window_at c p).asked * x ≡ weigh_of c p x
+  -- and for Sum an asked one its level, another nothing
+  pub weigh_asked : {w : Window} {low high : ℕ} → w ≡ window_at c p → c.kind ≡ Kind.Sum low high → w.asked ≡ true → x ≡ weigh_of c p x
   unfolding weigh_of weigh_by
-  weigh_sum k = rw k (go (window_at c p).asked)
-    where
-      go : (a : Bool) → bool_byte a * x ≡ cond a x 0
-      go true = omega arith
-      go false = omega arith
+  weigh_asked e k a = rw (k, rw e at a) refl
+
+  pub weigh_nothing : {w : Window} → w ≡ window_at c p → w.asked ≡ false → 0 ≡ weigh_of c p x
+  weigh_nothing e a = sym (weigh_unasked (rw e at a))

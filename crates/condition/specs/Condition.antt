@@ -1,15 +1,17 @@
 -- The condition: document 01, "The condition". In order: a condition as a value of the logic, and when it holds; its 38 bytes, field by field; what is
 -- refused with 8; the value that the code holds; what the bytes say, and what is refused, in the law's words.
 -- Levels are ℤ. Whether a level lies in a window, and the sum of the asked levels, stand behind one definition each.
-use Rattle.std.specs.Prelude.{◌≡◌, ℕ, zero, suc, ◌+◌, ◌-◌, ◌*◌, ◌<◌, Bool, true, false, cond, not, ◌&&◌, ◌||◌, ◌≢◌, ◌⊎◌, List, length, ℤ, pos, ◌+ℤ◌, ◌==◌, int_le, int_lt, nat_le, slice_index_or}
+use Rattle.std.specs.Prelude.{◌≡◌, ℕ, zero, suc, ◌+◌, ◌-◌, ◌*◌, ◌<◌, Bool, true, false, cond, not, ◌&&◌, ◌||◌, ◌≢◌, ◌⊎◌, List, length, ℤ, pos, ◌+ℤ◌, ◌==◌, int_le, int_lt, nat_le, slice_index_or, if◌then◌else◌, Result, Ok, Err}
+use Rattle.std.specs.Result.{result_and}
 use Rattle.std.proofs.Math.IntN.{sub_ℕ}
 use Rattle.bits.specs.Bits.{field}
 use Rattle.levels.specs.Level.{twos}
 use Rattle.cuts.specs.Below.{every, sum_to, tab}
+use Rattle.refusal.specs.Refusal.{Tested}
+use Rattle.refusal.specs.declared.Reason.{Reason}
 use Rattle.condition.specs.declared.Kind.{Kind}
 use Rattle.condition.specs.declared.Window.{Window}
 use Rattle.condition.specs.declared.Condition.{Condition}
-use Rattle.condition.specs.declared.Reading.{Reading}
 
 -- the number that an excess number of a window's end, or of Sum's, stands for
 unfoldable pub bound_of : ℕ → ℤ
@@ -39,10 +41,6 @@ lies w v = between (bound_of w.low) (bound_of w.high) v
 -- what is beside a station that is not there
 abbrev pub no_window : Window
 no_window = record { asked = false; low = 0; high = 0 }
-
--- Together with nothing asked
-abbrev pub no_condition : Condition
-no_condition = record { kind = Kind.Together; windows = tab 8 (λ p. no_window) }
 
 abbrev pub window_at : Condition → ℕ → Window
 window_at c p = slice_index_or c.windows p no_window
@@ -75,6 +73,10 @@ upright low high = int_le (twos 16 low) (twos 16 high)
 abbrev pub zeros : ℕ → ℕ → Bool
 zeros low high = low == 0 && high == 0
 
+-- a pair of ends that is used is not upside down, another is zero
+abbrev pub pair_ok : Bool → ℕ → ℕ → Bool
+pair_ok used low high = cond used (upright low high) (zeros low high)
+
 -- the excess number of 16 bits in two's complement
 unfoldable pub raised_of : ℕ → ℕ
 raised_of f = cond (nat_le 32768 f) (f - 32768) (f + 32768)
@@ -105,12 +107,15 @@ module _ (s : List ℕ) where
 
   -- the window of the station at place p: used by Together and At least where the station is asked, else zero
   unfoldable pub window_ok : ℕ → Bool
-  window_ok p = cond (asked_at p && not (kind_at == 2)) (upright (window_low p) (window_high p)) (zeros (window_low p) (window_high p))
+  window_ok p = pair_ok (asked_at p && not (kind_at == 2)) (window_low p) (window_high p)
+
+  -- the fields before the windows are in order: no kind 3, no k above 8, no k or ends that should be zero and are not, no low above high
+  abbrev pub head_ok : Bool
+  head_ok = nat_le kind_at 2 && nat_le k_at 8 && (kind_at == 1 || k_at == 0) && pair_ok (kind_at == 2) low_at high_at
 
   -- not refused with 8: no kind 3, no k above 8, no field that should be zero and is not, no low above high
   unfoldable pub condition_ok : Bool
-  condition_ok =
-      nat_le kind_at 2 && nat_le k_at 8 && (kind_at == 1 || k_at == 0) && cond (kind_at == 2) (upright low_at high_at) (zeros low_at high_at) && every 8 window_ok
+  condition_ok = head_ok && every 8 window_ok
 
   -- the kind with its own numbers
   unfoldable pub kind_of : ℕ → Kind
@@ -124,13 +129,13 @@ module _ (s : List ℕ) where
   unfoldable pub condition_of : Condition
   condition_of = record { kind = kind_of kind_at; windows = tab 8 window_of }
 
-  -- the refusal number of the first 38 bytes, 0 if there is none: "fewer than 38 bytes (1), 8"
-  unfoldable pub refused_of : ℕ
-  refused_of = cond (nat_le 38 (length s)) (cond condition_ok 0 8) 1
+  -- why the first 38 bytes are refused, if they are: "fewer than 38 bytes (1), 8"
+  unfoldable pub refused_of : Tested
+  refused_of = if nat_le 38 (length s) then (if condition_ok then Ok tt else Err Reason.Condition) else Err Reason.TooShort
 
-  -- the condition that was read, a condition with nothing asked beside a refusal
-  unfoldable pub read_of : Reading
-  read_of = cond (refused_of == 0) (record { refused = 0; condition = condition_of }) (record { refused = refused_of; condition = no_condition })
+  -- the condition that was read, or why it is refused
+  unfoldable pub read_of : Result Condition Reason
+  read_of = result_and refused_of (Ok condition_of)
 
 -- the value c is what the 38 bytes s say, in the law's numbers
 pub record Says (s : List ℕ) (c : Condition) : Type 0 where

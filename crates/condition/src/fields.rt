@@ -1,124 +1,70 @@
 // The fields of the 38 bytes, and what is refused with 8.
-ghost use Rattle.std.specs.Prelude.{◌≡◌, ◌<◌, ◌&&◌, ◌||◌, if◌then◌else◌, ◌==◌, nat_le};
+ghost use Rattle.std.specs.Prelude.{◌≡◌, ◌+◌, ◌<◌, if◌then◌else◌, ◌==◌, Ok, Err};
 ghost use Rattle.bits.specs.Bits.{field};
 ghost use Rattle.cuts.specs.Below.{every, tab};
-ghost use Rattle.condition.specs.declared.Kind.{Kind};
-ghost use Rattle.condition.specs.Condition.{kind_at, window_ok, raised_of, kind_of, window_of, refused_of, no_window};
+ghost use Rattle.refusal.specs.declared.Reason.{Reason};
+ghost use Rattle.condition.specs.Condition.{kind_at, head_ok, window_ok, pair_ok, raised_of, kind_of, window_of};
 
 use crate::{Kind, Window};
+use refusal::Reason;
 
-// The refusal number of the first 38 bytes, 0 if there is none.
-pub fn refusal(s: &[u8]) -> u8
-    ensures { result ≡ refused_of s.now }
+// The kind with its own numbers, or Condition: kind 3, k above 8, k or ends that should be zero and are not, low above high.
+// No TryFrom of the number alone: the kind takes k or the ends in too, and whether they are good goes by the number.
+pub fn kind(s: &[u8]) -> Result<Kind, Reason>
+    ensures { result ≡ (if head_ok s.now then Ok (kind_of s.now (kind_at s.now)) else Err Reason.Condition) }
 {
-    if s.len() < 38 {
-        return 1;
-    }
-    let kind = bits::peek(s, 0, 2);
-    let sum = kind == 2;
-    if is_k_good(kind, bits::peek(s, 2, 6))
-        & is_pair_good(sum, end_at(s, 8), end_at(s, 24))
-        & are_windows_good(s, sum)
-    {
-        return 0;
-    }
-    8
-}
-
-// Whether there is such a kind, and k is at most 8, and zero where the kind has no use for it.
-fn is_k_good(kind: u16, k: u16) -> bool
-    ensures { result ≡ (nat_le kind 2 && nat_le k 8 && (kind == 1 || k == 0)) }
-{
-    match kind {
-        1 => k <= 8,
-        0 | 2 => k == 0,
-        _ => false,
+    let number = bits::peek(s, 0, 2);
+    let k = bits::peek(s, 2, 6);
+    let (low, high) = ends(s, 8, number == 2)?;
+    match number {
+        0 if k == 0 => Ok(Kind::Together),
+        1 if k <= 8 => Ok(Kind::AtLeast(k as u8)),
+        2 if k == 0 => Ok(Kind::Sum(low, high)),
+        _ => Err(Reason::Condition),
     }
 }
 
-// Whether the eight windows are in order, for Sum or for a kind that uses them.
-fn are_windows_good(s: &[u8], sum: bool) -> bool
-    requires { sum ≡ (kind_at s.now == 2) }
-    ensures { result ≡ every 8 (window_ok s.now) }
+// The eight windows, or Condition, where one is not in order.
+pub fn windows(s: &[u8]) -> Result<[Window; 8], Reason>
+    ensures { result ≡ (if every 8 (window_ok s.now) then Ok (tab 8 (window_of s.now)) else Err Reason.Condition) }
 {
-    let mut good = true;
-    let mut p: usize = 0;
-    while p < 8 {
-        good = good & is_window_good(s, sum, p);
-        p += 1;
+    let sum = bits::peek(s, 0, 2) == 2;
+    let mut windows = [Window::default(); 8];
+    for (p, place) in windows.iter_mut().enumerate() {
+        *place = window(s, p, sum)?;
     }
-    good
+    Ok(windows)
 }
 
-// Whether the window of the station at place p is in order: Sum uses none, the other kinds that of an asked station.
-fn is_window_good(s: &[u8], sum: bool, p: usize) -> bool
-    requires { (sum ≡ (kind_at s.now == 2)) × (p < 8) }
-    ensures { result ≡ window_ok s.now p }
+// The window of the station at place p, or Condition: Sum uses none, the other kinds that of an asked station.
+fn window(s: &[u8], p: usize, sum: bool) -> Result<Window, Reason>
+    requires { (p < 8) × (sum ≡ (kind_at s.now == 2)) }
+    ensures { result ≡ (if window_ok s.now p then Ok (window_of s.now p) else Err Reason.Condition) }
 {
-    let w = window(s, p);
-    is_pair_good(w.asked & !sum, w.low, w.high)
+    let asked = bits::peek(s, 40 + p, 1) == 1;
+    let (low, high) = ends(s, 48 + 32 * p, asked & !sum)?;
+    Ok(Window { asked, low, high })
 }
 
-// Whether a pair of ends, as excess numbers, is in order: not upside down where it is used, else zero, which is 32,768.
-fn is_pair_good(used: bool, low: u16, high: u16) -> bool
-    ensures { result ≡ (if used then nat_le low high else (low == 32768) && high == 32768) }
+// The pair of ends at bit `at`, as excess numbers, or Condition: upside down where they are used, else not zero, which is 32,768.
+fn ends(s: &[u8], at: usize, used: bool) -> Result<(u16, u16), Reason>
+    requires { at < 65536 }
+    ensures { result ≡ (if pair_ok used (field s.now at 16) (field s.now (at + 16) 16)
+        then Ok (raised_of (field s.now at 16), raised_of (field s.now (at + 16) 16))
+        else Err Reason.Condition) }
 {
+    let low = end(s, at);
+    let high = end(s, at + 16);
     match used {
-        true => low <= high,
-        false => (low == 32768) & (high == 32768),
+        true if low <= high => Ok((low, high)),
+        false if (low, high) == (32768, 32768) => Ok((low, high)),
+        _ => Err(Reason::Condition),
     }
 }
 
-// The kind with its own numbers; Together beside a refusal.
-pub fn kind(s: &[u8], refused: bool) -> Kind
-    ensures { result ≡ (if refused then Kind.Together else kind_of s.now (kind_at s.now)) }
-{
-    match refused {
-        true => Kind::Together,
-        false => {
-            let number = bits::peek(s, 0, 2);
-            match number {
-                0 => Kind::Together,
-                1 => Kind::AtLeast(bits::peek(s, 2, 6) as u8),
-                _ => Kind::Sum(end_at(s, 8), end_at(s, 24)),
-            }
-        }
-    }
-}
-
-// The eight windows; none asked beside a refusal, where none is read.
-pub fn windows(s: &[u8], refused: bool) -> [Window; 8]
-    ensures { result ≡ (if refused then tab 8 (λ p. no_window) else tab 8 (window_of s.now)) }
-{
-    let mut w = [Window {
-        asked: false,
-        low: 0,
-        high: 0,
-    }; 8];
-    let mut p = 8 * refused as usize;
-    while p < 8 {
-        w[p] = window(s, p);
-        p += 1;
-    }
-    w
-}
-
-// The window of the station at place p.
-fn window(s: &[u8], p: usize) -> Window
-    requires { p < 8 }
-    ensures { result ≡ window_of s.now p }
-{
-    let at = 32 * p;
-    Window {
-        asked: bits::peek(s, 40 + p, 1) == 1,
-        low: end_at(s, 48 + at),
-        high: end_at(s, 64 + at),
-    }
-}
-
-// The end of a window or of Sum at bit `at`, as an excess number: 16 bits in two's complement.
-fn end_at(s: &[u8], at: usize) -> u16
+// The end at bit `at`, as an excess number: 16 bits in two's complement.
+fn end(s: &[u8], at: usize) -> u16
     ensures { result ≡ raised_of (field s.now at 16) }
 {
-    std::num::wrapping_add_u16(bits::peek(s, at, 16), 32768)
+    bits::peek(s, at, 16).wrapping_add(32768)
 }

@@ -2,16 +2,17 @@
 #![tactic(auto)]
 
 ghost use Rattle.std.specs.Prelude.{◌≡◌, ◌+◌, ◌≤◌, ◌&&◌, nat_le};
-ghost use mir.Val.{bool_byte};
 ghost use Rattle.cuts.specs.Cut.{at};
 ghost use Rattle.levels.specs.Level.{level_of};
 ghost use Rattle.condition.specs.Condition.{read_of, holds_of};
 ghost use Rattle.condition.specs.Weigh.{weigh_of, asked_of, limits_of};
 
+use refusal::Reason;
+
 mod fields;
 
 // The three kinds, each with its own numbers. Sum's ends are excess numbers, 32,768 above what they stand for.
-#[derive(Clone, Copy)]
+#[derive(Clone, Copy, Debug, PartialEq, Eq)]
 pub enum Kind {
     Together,
     AtLeast(u8),
@@ -19,7 +20,7 @@ pub enum Kind {
 }
 
 // A station's window, whether the station is asked. The ends are excess numbers too.
-#[derive(Clone, Copy)]
+#[derive(Clone, Copy, Debug, Default, PartialEq, Eq)]
 pub struct Window {
     pub asked: bool,
     pub low: u16,
@@ -27,52 +28,42 @@ pub struct Window {
 }
 
 // A condition: its kind, and beside it the eight windows.
-#[derive(Clone, Copy)]
+#[derive(Clone, Copy, Debug, PartialEq, Eq)]
 pub struct Condition {
     pub kind: Kind,
     pub windows: [Window; 8],
 }
 
 // The limits of the sum that decides whether a condition holds, 32,768 above the sum itself.
-#[derive(Clone, Copy)]
+#[derive(Clone, Copy, Debug, PartialEq, Eq)]
 pub struct Limits {
     pub least: usize,
     pub most: usize,
 }
 
-// The condition that was read, or its refusal number (0: none) and a condition with nothing asked.
-#[derive(Clone, Copy)]
-pub struct Reading {
-    pub refused: u8,
-    pub condition: Condition,
-}
-
-// The condition in the first 38 bytes, or its refusal: 1 if there are fewer, 8 if it breaks the rules.
-pub fn read(s: &[u8]) -> Reading
+// The condition in the first 38 bytes, or why it is refused: TooShort if there are fewer, Condition if it breaks the rules.
+pub fn read(s: &[u8]) -> Result<Condition, Reason>
     ensures { result ≡ read_of s.now }
 {
-    let number = fields::refusal(s);
-    let refused = number != 0;
-    let kind = fields::kind(s, refused);
-    let windows = fields::windows(s, refused);
-    Reading {
-        refused: number,
-        condition: Condition { kind, windows },
+    if s.len() < 38 {
+        return Err(Reason::TooShort);
     }
+    let kind = fields::kind(s)?;
+    let windows = fields::windows(s)?;
+    Ok(Condition { kind, windows })
 }
 
 // What the station at place p adds to the sum that decides, at this excess level; 0 beyond the eighth.
 pub fn weigh(c: Condition, p: usize, level: u16) -> u16
     ensures { result ≡ weigh_of c p level }
 {
-    if 8 <= p {
+    let Some(window) = c.windows.get(p) else {
         return 0;
-    }
-    let w = c.windows[p];
-    let kind = c.kind;
-    match kind {
-        Kind::Sum(_, _) => w.asked as u16 * level,
-        _ => one_inside(w.asked, w.low, w.high, level),
+    };
+    match c.kind {
+        Kind::Sum(_, _) if window.asked => level,
+        Kind::Sum(_, _) => 0,
+        _ => u16::from(window.is_met(level)),
     }
 }
 
@@ -80,22 +71,20 @@ pub fn weigh(c: Condition, p: usize, level: u16) -> u16
 pub fn limits_of(c: Condition) -> Limits
     ensures { result ≡ limits_of c }
 {
-    let asked = asked(c);
-    let kind = c.kind;
-    match kind {
+    match c.kind {
         Kind::Together => Limits {
-            least: 32768 + asked,
+            least: 32768 + c.count_asked(),
             most: 32776,
         },
         Kind::AtLeast(k) => Limits {
-            least: 32768 + k as usize,
+            least: 32768 + usize::from(k),
             most: 32776,
         },
         Kind::Sum(low, high) => {
-            let more = 2048 * asked;
+            let more = 2048 * c.count_asked();
             Limits {
-                least: low as usize + more,
-                most: high as usize + more,
+                least: usize::from(low) + more,
+                most: usize::from(high) + more,
             }
         }
     }
@@ -106,32 +95,28 @@ pub fn holds(c: Condition, levels: [u16; 8]) -> bool
     ensures { result ≡ holds_of c (λ p. level_of (at levels p)) }
 {
     let mut sum: usize = 32768;
-    let mut p: usize = 0;
-    while p < 8 {
-        sum += weigh(c, p, levels[p]) as usize;
-        p += 1;
+    for (p, level) in levels.iter().enumerate() {
+        sum += usize::from(weigh(c, p, *level));
     }
-    let l = limits_of(c);
-    (l.least <= sum) & (sum <= l.most)
+    let limits = limits_of(c);
+    (limits.least..=limits.most).contains(&sum)
 }
 
-// The stations that are asked.
-fn asked(c: Condition) -> usize
-    ensures { (result ≡ asked_of c) × (result ≤ 8) }
-{
-    let mut count: usize = 0;
-    let mut p: usize = 0;
-    while p < 8 {
-        count += c.windows[p].asked as usize;
-        p += 1;
+impl Window {
+    // Whether the station is asked and its level, an excess number, lies in its window; 30,720 is 32,768 - 2,048.
+    fn is_met(self, level: u16) -> bool
+        ensures { result ≡ (self.asked && (nat_le self.low (level + 30720) && nat_le (level + 30720) self.high)) }
+    {
+        let end = usize::from(level) + 30720;
+        self.asked && (usize::from(self.low)..=usize::from(self.high)).contains(&end)
     }
-    count
 }
 
-// 1 where the station is asked and its level, an excess number, lies in its window, else 0; 30,720 is 32,768 − 2,048.
-fn one_inside(asked: bool, low: u16, high: u16, level: u16) -> u16
-    ensures { result ≡ bool_byte (asked && (nat_le low (level + 30720) && nat_le (level + 30720) high)) }
-{
-    let v = level as usize + 30720;
-    (asked & ((low as usize <= v) & (v <= high as usize))) as u16
+impl Condition {
+    // How many stations are asked.
+    fn count_asked(self) -> usize
+        ensures { (result ≡ asked_of self) × (result ≤ 8) }
+    {
+        self.windows.iter().filter(|window| window.asked).count()
+    }
 }

@@ -24,7 +24,7 @@ use Rattle.cuts.specs.Cut.{at, forward, back, total, Within}
 use Rattle.cuts.specs.Rank.{weight, rank, box}
 use Rattle.cut.specs.Value.{counts_of, most_at, under, moved, with_count, forward_of, back_of}
 use Rattle.cut.specs.declared.Cut.{Cut}
-use Rattle.cut.specs.declared.Moved.{Moved}
+use Rattle.std.proofs.Common.{Some, is_some, IsSome}
 use Rattle.cut.specs.contracts.Cut.{the_type}
 use Rattle.cuts.proofs.BelowLaws.{every_true, true_every, sum_to-same, sum_to-more, sum_to-first, product_to-same, product_to-more}
 
@@ -43,27 +43,26 @@ under_at m c = (
   λ h. true_every 8 _ (λ p l. le-leb _ _ (h p l)),
 )
 
-pub found_moved : (t : Bool) (new old : Cut) → (moved t new old).found ≡ t
+pub found_moved : (t : Bool) (new : Cut) → is_some (moved t new) ≡ t
 unfolding moved
-found_moved true new old = refl
-found_moved false new old = refl
+found_moved true new = refl
+found_moved false new = refl
 
-moved_some : (t : Bool) (new old : Cut) → (moved t new old).found ≡ true
-    → ◌≡◌ {A = Moved} (record { found = true; cut = new }) (moved t new old)
+moved_some : (t : Bool) (new : Cut) → IsSome (moved t new) → Some new ≡ moved t new
 unfolding moved
-moved_some true new old h = refl
-moved_some false new old h = absurd (false≢true h)
+moved_some true new h = refl
+moved_some false new h = absurd (false≢true h)
 
 -- a step that is found hands back the cut with the one count changed
-pub forward_of-some : (m c : Cut) (s : ℕ) → (forward_of m c s).found ≡ true
-    → ◌≡◌ {A = Moved} (record { found = true; cut = with_count c (s - 1) (at c.counts (s - 1) + 1) }) (forward_of m c s)
+pub forward_of-some : (m c : Cut) (s : ℕ) → IsSome (forward_of m c s)
+    → Some (with_count c (s - 1) (at c.counts (s - 1) + 1)) ≡ forward_of m c s
 unfolding forward_of
-forward_of-some m c s h = moved_some _ _ c h
+forward_of-some m c s h = moved_some _ _ h
 
-pub back_of-some : (m c : Cut) (s : ℕ) → (back_of m c s).found ≡ true
-    → ◌≡◌ {A = Moved} (record { found = true; cut = with_count c (s - 1) (at c.counts (s - 1) - 1) }) (back_of m c s)
+pub back_of-some : (m c : Cut) (s : ℕ) → IsSome (back_of m c s)
+    → Some (with_count c (s - 1) (at c.counts (s - 1) - 1)) ≡ back_of m c s
 unfolding back_of
-back_of-some m c s h = moved_some _ _ c h
+back_of-some m c s h = moved_some _ _ h
 
 pub at-counts_of : (c : Cut) (p : ℕ) → p < c.n → at (counts_of c) p ≡ at c.counts p
 at-counts_of c p h = get_or-take c.n c.counts p 0 h

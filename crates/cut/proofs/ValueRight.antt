@@ -17,10 +17,11 @@ use Rattle.cuts.specs.Cut.{at, forward, back, total, Within}
 use Rattle.cuts.specs.Rank.{weight, rank, box}
 use Rattle.cut.specs.Value.{most_at, under, is_full, is_cut, is_station, FullCut, CutOf, counts_of, moved, with_count, forward_of, back_of, box_of, rank_of, events_of}
 use Rattle.cut.specs.declared.Cut.{Cut}
-use Rattle.cut.specs.declared.Moved.{Moved}
-use Rattle.cut.specs.declared.Ranked.{Ranked}
+use Rattle.std.proofs.Common.{Option, Some, None, is_some, IsSome}
+use Rattle.std.proofs.lemmas.Option.{same_Some}
 use Rattle.cuts.proofs.BelowLaws.{and_true}
 use Rattle.cut.proofs.ValueLaws.{most_at-in, most_at-beyond, under_at, found_moved}
+use Rattle.cuts.proofs.RankLaws.{box_pos}
 use Rattle.cuts.proofs.ReplyLaws.{refuted, replies_equal}
 use Rattle.cut.proofs.ValueLaws.{forward_of-some, back_of-some, at-counts_of, at_set_le, set_forward, set_back, within_take, box_take, rank_to, rank_take, total_take}
 
@@ -97,25 +98,25 @@ station_is m c s = (reads, tests)
 
 -- where a step is found: a and b are what the test of the named count compares
 step_found : (m c new : Cut) (s a b : ℕ)
-    → ((moved (is_cut m c && is_station m s && ltb a b) new c).found ≡ true) ↔ (CutOf m c × (1 ≤ s) × (s ≤ m.n) × (a < b))
+    → IsSome (moved (is_cut m c && is_station m s && ltb a b) new) ↔ (CutOf m c × (1 ≤ s) × (s ≤ m.n) × (a < b))
 step_found m c new s a b = (reads, tests)
   where
-    reads : (moved (is_cut m c && is_station m s && ltb a b) new c).found ≡ true → CutOf m c × (1 ≤ s) × (s ≤ m.n) × (a < b)
+    reads : IsSome (moved (is_cut m c && is_station m s && ltb a b) new) → CutOf m c × (1 ≤ s) × (s ≤ m.n) × (a < b)
     reads h =
-        let (i, t) = and_true (is_cut m c && is_station m s) (ltb a b) (sym (found_moved _ new c) ∙ h) in
+        let (i, t) = and_true (is_cut m c && is_station m s) (ltb a b) (sym (found_moved _ new) ∙ h) in
         let (d, l, k) = (station_is m c s).0 i in
         (d, l, k, ltb-true _ _ t)
 
-    tests : CutOf m c × (1 ≤ s) × (s ≤ m.n) × (a < b) → (moved (is_cut m c && is_station m s && ltb a b) new c).found ≡ true
-    tests (d, l, k, t) = found_moved _ new c ∙ simp ((station_is m c s).1 (d, l, k), lt-ltb _ _ t)
+    tests : CutOf m c × (1 ≤ s) × (s ≤ m.n) × (a < b) → IsSome (moved (is_cut m c && is_station m s && ltb a b) new)
+    tests (d, l, k, t) = found_moved _ new ∙ simp ((station_is m c s).1 (d, l, k), lt-ltb _ _ t)
 
 -- "There is none exactly if the station is not 1 to n, the cut is not one of the recording .., or the named count would leave 0 to m"
 pub forward_found : (m c : Cut) (s : ℕ)
-    → ((forward_of m c s).found ≡ true) ↔ (CutOf m c × (1 ≤ s) × (s ≤ m.n) × (at c.counts (s - 1) < at m.counts (s - 1)))
+    → IsSome (forward_of m c s) ↔ (CutOf m c × (1 ≤ s) × (s ≤ m.n) × (at c.counts (s - 1) < at m.counts (s - 1)))
 unfolding forward_of
 forward_found m c s = step_found m c _ s _ _
 
-pub back_found : (m c : Cut) (s : ℕ) → ((back_of m c s).found ≡ true) ↔ (CutOf m c × (1 ≤ s) × (s ≤ m.n) × (0 < at c.counts (s - 1)))
+pub back_found : (m c : Cut) (s : ℕ) → IsSome (back_of m c s) ↔ (CutOf m c × (1 ≤ s) × (s ≤ m.n) × (0 < at c.counts (s - 1)))
 unfolding back_of
 back_found m c s = step_found m c _ s _ _
 
@@ -144,31 +145,34 @@ with_count-stepped m c p x d e h k = record {
     above q l = at_set_le c.counts p x q (at m.counts q) (λ z. rw z k) (d.no_above q l)
 
 -- where the step is found it is the step of specs/Cut.antt
-pub forward_counts : (m c : Cut) (s : ℕ) → (forward_of m c s).found ≡ true → length c.counts ≡ 8
-    → Stepped m c (forward_of m c s).cut (forward (s - 1) (counts_of c))
-forward_counts m c s f e =
-    let (d, l, k, t) = (forward_found m c s).0 f in
-    rw (← forward_of-some m c s f, ← set_forward (counts_of c) (s - 1), at-counts_of c (s - 1) (omega (arith, d.same_n)))
+pub forward_counts : (m c next : Cut) (s : ℕ) → forward_of m c s ≡ Some next → length c.counts ≡ 8
+    → Stepped m c next (forward (s - 1) (counts_of c))
+forward_counts m c next s f e =
+    let found : IsSome (forward_of m c s) = ap is_some f in
+    let (d, l, k, t) = (forward_found m c s).0 found in
+    rw (← same_Some _ next (forward_of-some m c s found ∙ f), ← set_forward (counts_of c) (s - 1), at-counts_of c (s - 1) (omega (arith, d.same_n)))
     (with_count-stepped m c (s - 1) _ d e (omega arith) (omega arith))
 
-pub back_counts : (m c : Cut) (s : ℕ) → (back_of m c s).found ≡ true → length c.counts ≡ 8 → Stepped m c (back_of m c s).cut (back (s - 1) (counts_of c))
-back_counts m c s f e =
-    let (d, l, k, t) = (back_found m c s).0 f in
-    rw (← back_of-some m c s f, ← set_back (counts_of c) (s - 1), at-counts_of c (s - 1) (omega (arith, d.same_n)))
+pub back_counts : (m c next : Cut) (s : ℕ) → back_of m c s ≡ Some next → length c.counts ≡ 8 → Stepped m c next (back (s - 1) (counts_of c))
+back_counts m c next s f e =
+    let found : IsSome (back_of m c s) = ap is_some f in
+    let (d, l, k, t) = (back_found m c s).0 found in
+    rw (← same_Some _ next (back_of-some m c s found ∙ f), ← set_back (counts_of c) (s - 1), at-counts_of c (s - 1) (omega (arith, d.same_n)))
     (with_count-stepped m c (s - 1) _ d e (omega arith) (omega (arith, d.no_above (s - 1) (omega arith))))
 
 -- a step forward and the same back give the first cut again
-pub forward_back_value : (m c : Cut) (s : ℕ) → (forward_of m c s).found ≡ true → length c.counts ≡ 8
-    → back_of m (forward_of m c s).cut s ≡ record { found = true; cut = c }
-forward_back_value m c s f e =
-    let (d, l, k, t) = (forward_found m c s).0 f in
+pub forward_back_value : (m c next : Cut) (s : ℕ) → forward_of m c s ≡ Some next → length c.counts ≡ 8 → back_of m next s ≡ Some c
+forward_back_value m c next s f e =
+    let found : IsSome (forward_of m c s) = ap is_some f in
+    let (d, l, k, t) = (forward_found m c s).0 found in
     let p = s - 1 in
-    let next = with_count c p (at c.counts p + 1) in
-    let n : CutOf m next = rw (← forward_of-some m c s f) at (forward_counts m c s f e).cut in
-    let x : at next.counts p ≡ at c.counts p + 1 = get_or-set_same c.counts p _ 0 (omega (arith, d.full.most_eight)) in
+    let g : with_count c p (at c.counts p + 1) ≡ next = same_Some _ next (forward_of-some m c s found ∙ f) in
+    let n : CutOf m next = (forward_counts m c next s f e).cut in
+    let x : at (with_count c p (at c.counts p + 1)).counts p ≡ at c.counts p + 1 = get_or-set_same c.counts p _ 0 (omega (arith, d.full.most_eight)) in
     let y : at c.counts p + 1 - 1 ≡ at c.counts p = omega arith in
-    let b : (back_of m next s).found ≡ true = (back_found m next s).1 (n, l, k, omega arith) in
-    rw (← forward_of-some m c s f, ← back_of-some m next s b, x, set-set, y, set-get_or c.counts p 0) refl
+    let z : at next.counts p ≡ at c.counts p + 1 = ap (λ (u : Cut). at u.counts p) (sym g) ∙ x in
+    let b : IsSome (back_of m next s) = (back_found m next s).1 (n, l, k, omega arith) in
+    sym (back_of-some m next s b) ∙ rw (← g, x, set-set, y, set-get_or c.counts p 0) refl
 
 -- a cut of the recording is one of specs/Cut.antt
 pub within_value : (m c : Cut) → CutOf m c → length c.counts ≡ 8 → length m.counts ≡ 8 → Within (counts_of m) (counts_of c)
@@ -185,6 +189,10 @@ pub box_of-none : (m : Cut) → (FullCut m → ⊥) → box_of m ≡ 0
 unfolding box_of
 box_of-none m h = rw (refuted (is_full m) (λ e. h ((is_full-is m).0 e))) refl
 
+-- .. so that 0 says that there is no such recording
+pub box_of-pos : (m : Cut) → FullCut m → 0 < box_of m
+box_of-pos m f = omega (arith, box_of-full m f, box_pos (counts_of m))
+
 -- the box of eight counts is the product that the code's loop makes
 pub box_loop : (m : Cut) → FullCut m → length m.counts ≡ 8 → box (counts_of m) ≡ weight m.counts m.n
 box_loop m f l = box_take m.counts m.n (omega (arith, f.most_eight))
@@ -193,11 +201,11 @@ pub box_of-loop : (m : Cut) → FullCut m → length m.counts ≡ 8 → box_of m
 box_of-loop m f l = box_of-full m f ∙ ap (λ (b : ℕ). min b 65537) (box_loop m f l)
 
 -- the rank of a cut of the recording, where the box is within its limit
-pub rank_of-some : (m c : Cut) → CutOf m c → box (counts_of m) ≤ 65536 → rank_of m c ≡ Ranked.At (rank (counts_of m) (counts_of c))
+pub rank_of-some : (m c : Cut) → CutOf m c → box (counts_of m) ≤ 65536 → rank_of m c ≡ Some (rank (counts_of m) (counts_of c))
 unfolding rank_of
 rank_of-some m c d h = rw ((is_cut-is m c).1 d, le-leb _ _ h) refl
 
-pub rank_of-none : (m c : Cut) → (CutOf m c → box (counts_of m) ≤ 65536 → ⊥) → rank_of m c ≡ Ranked.Nothing
+pub rank_of-none : (m c : Cut) → (CutOf m c → box (counts_of m) ≤ 65536 → ⊥) → rank_of m c ≡ None
 unfolding rank_of
 rank_of-none m c h = rw (refuted (is_cut m c && leb (box (counts_of m)) 65536) no) refl
   where
@@ -208,21 +216,21 @@ rank_of-none m c h = rw (refuted (is_cut m c && leb (box (counts_of m)) 65536) n
 
 -- the rank of eight counts is the sum that the code's loop makes
 pub rank_of-loop : (m c : Cut) → CutOf m c → length m.counts ≡ 8 → weight m.counts m.n ≤ 65536
-    → rank_of m c ≡ Ranked.At (rank_to m.counts c.counts m.n)
+    → rank_of m c ≡ Some (rank_to m.counts c.counts m.n)
 rank_of-loop m c d l h =
     rank_of-some m c d (omega (arith, box_loop m d.full l))
-    ∙ ap Ranked.At (rw d.same_n (rank_take m.counts c.counts m.n (omega (arith, d.full.most_eight))))
+    ∙ ap Some (rw d.same_n (rank_take m.counts c.counts m.n (omega (arith, d.full.most_eight))))
 
-pub forward_unique : (m c : Cut) (s : ℕ) (r r' : Moved) → r ≡ forward_of m c s → r' ≡ forward_of m c s → r ≡ r'
+pub forward_unique : (m c : Cut) (s : ℕ) (r r' : Option Cut) → r ≡ forward_of m c s → r' ≡ forward_of m c s → r ≡ r'
 forward_unique m c s r r' = replies_equal
 
-pub back_unique : (m c : Cut) (s : ℕ) (r r' : Moved) → r ≡ back_of m c s → r' ≡ back_of m c s → r ≡ r'
+pub back_unique : (m c : Cut) (s : ℕ) (r r' : Option Cut) → r ≡ back_of m c s → r' ≡ back_of m c s → r ≡ r'
 back_unique m c s r r' = replies_equal
 
 pub box_unique : (m : Cut) (r r' : ℕ) → r ≡ box_of m → r' ≡ box_of m → r ≡ r'
 box_unique m r r' = replies_equal
 
-pub rank_unique : (m c : Cut) (r r' : Ranked) → r ≡ rank_of m c → r' ≡ rank_of m c → r ≡ r'
+pub rank_unique : (m c : Cut) (r r' : Option ℕ) → r ≡ rank_of m c → r' ≡ rank_of m c → r ≡ r'
 rank_unique m c r r' = replies_equal
 
 -- T of a full cut

@@ -1,13 +1,11 @@
 -- The cut as a value of the code: document 01, "A cut is a value of eight counts with the number of stations; counts beyond n are 0".
 -- In order: full cuts and the cuts of their recording, as tests and in the law's words; the two steps; the box with its ceiling; the rank; T.
 -- A recording is handed in as its full cut m: its n and the events of each station.
-use Rattle.std.specs.Prelude.{◌≡◌, Bool, true, false, ◌&&◌, cond, List, ℕ, ◌+◌, ◌-◌, ◌≤◌, ◌<◌, min, leb, ltb, eqb, take, set}
+use Rattle.std.specs.Prelude.{◌≡◌, Bool, true, false, ◌&&◌, cond, List, ℕ, ◌+◌, ◌-◌, ◌≤◌, ◌<◌, min, leb, ltb, eqb, take, set, Option, Some, None}
 use Rattle.cuts.specs.Below.{every}
 use Rattle.cuts.specs.Cut.{at, total}
 use Rattle.cuts.specs.Rank.{rank, box}
 use Rattle.cut.specs.declared.Cut.{Cut}
-use Rattle.cut.specs.declared.Moved.{Moved}
-use Rattle.cut.specs.declared.Ranked.{Ranked}
 
 -- the counts of the n stations: the cut of the mathematics
 abbrev pub counts_of : Cut → List ℕ
@@ -55,27 +53,26 @@ is_station m s = leb 1 s && leb s m.n
 abbrev pub with_count : Cut → ℕ → ℕ → Cut
 with_count c p x = record { counts = set c.counts p x; n = c.n }
 
--- "a new cut or .. none"; where there is none, the cut given
-unfoldable pub moved : Bool → Cut → Cut → Moved
-moved true new old = record { found = true; cut = new }
-moved false new old = record { found = false; cut = old }
+-- "a new cut or .. none"
+unfoldable pub moved : Bool → Cut → Option Cut
+moved true new = Some new
+moved false new = None
 
 -- one event of station s forward: the named count would not leave 0 to m
-unfoldable pub forward_of : Cut → Cut → ℕ → Moved
-forward_of m c s =
-    moved (is_cut m c && is_station m s && ltb (at c.counts (s - 1)) (at m.counts (s - 1))) (with_count c (s - 1) (at c.counts (s - 1) + 1)) c
+unfoldable pub forward_of : Cut → Cut → ℕ → Option Cut
+forward_of m c s = moved (is_cut m c && is_station m s && ltb (at c.counts (s - 1)) (at m.counts (s - 1))) (with_count c (s - 1) (at c.counts (s - 1) + 1))
 
 -- one event of station s back
-unfoldable pub back_of : Cut → Cut → ℕ → Moved
-back_of m c s = moved (is_cut m c && is_station m s && ltb 0 (at c.counts (s - 1))) (with_count c (s - 1) (at c.counts (s - 1) - 1)) c
+unfoldable pub back_of : Cut → Cut → ℕ → Option Cut
+back_of m c s = moved (is_cut m c && is_station m s && ltb 0 (at c.counts (s - 1))) (with_count c (s - 1) (at c.counts (s - 1) - 1))
 
 -- the box, 65,537 once it is above 65,536; 0, the number of its cuts, where m is the full cut of no recording
 unfoldable pub box_of : Cut → ℕ
 box_of m = cond (is_full m) (min (box (counts_of m)) 65537) 0
 
 -- the rank of a cut of the recording, where the box is within its limit
-unfoldable pub rank_of : Cut → Cut → Ranked
-rank_of m c = cond (is_cut m c && leb (box (counts_of m)) 65536) (Ranked.At (rank (counts_of m) (counts_of c))) Ranked.Nothing
+unfoldable pub rank_of : Cut → Cut → Option ℕ
+rank_of m c = cond (is_cut m c && leb (box (counts_of m)) 65536) (Some (rank (counts_of m) (counts_of c))) None
 
 -- T, the events of the recording; 0 where m is the full cut of no recording
 unfoldable pub events_of : Cut → ℕ

@@ -2,26 +2,18 @@
 // A recording is handed in as its full cut.
 #![tactic(auto)]
 
-ghost use Rattle.std.specs.Prelude.{◌≡◌, ◌&&◌, ◌<◌, min};
-ghost use Rattle.cuts.specs.Cut.{at};
-ghost use Rattle.cut.specs.Value.{is_cut, is_station, with_count, forward_of, back_of, box_of, rank_of, events_of};
+ghost use Rattle.std.specs.Prelude.{◌≡◌, ◌&&◌, ◌-◌, ◌<◌, MatchOption, true, false};
+ghost use Rattle.cut.specs.Value.{is_cut, is_station, forward_of, back_of, box_of, rank_of, events_of};
 ghost use Rattle.cut.specs.Walk.{Walks};
 
 // One event number for each station; counts beyond n are 0.
-#[derive(Clone, Copy)]
+#[derive(Clone, Copy, Debug, PartialEq, Eq)]
 pub struct Cut {
     pub counts: [u16; 8],
     pub n: u8,
 }
 
-// A step's answer: the new cut, or that there is none, and then the cut given.
-#[derive(Clone, Copy)]
-pub struct Moved {
-    pub found: bool,
-    pub cut: Cut,
-}
-
-// What one walk over the places of a recording and a cut comes to: the box under its ceiling, or 0 where c is no cut of it; the rank; T.
+// What one walk over the places of a recording and a cut of it comes to: the box under its ceiling, the rank, T.
 #[derive(Clone, Copy)]
 struct Walked {
     size: usize,
@@ -29,112 +21,91 @@ struct Walked {
     events: usize,
 }
 
-// The rank of a cut, or nothing where it has none.
-#[derive(Clone, Copy)]
-pub enum Ranked {
-    At(usize),
-    Nothing,
-}
-
 impl Cut {
-    // The cut one event of the station further on, or that there is none. A number that names no station gets some place too, whose count stays.
-    pub fn forward(self, full: Cut, station: u8) -> Moved
+    // The cut one event of the station further on, or nothing: no cut of the recording, no station of it, or no such event.
+    #[tactic(auto, using(crate::proofs::WalkLaws::forward_steps))]
+    pub fn forward(self, full: Cut, station: u8) -> Option<Cut>
         ensures { result ≡ forward_of full self station }
     {
-        let p = (station as usize + 7) % 8;
-        let x = count(self, p);
-        let found = has_station(full, self, station) & (x < count(full, p));
-        step_to(self, p, x + found as usize, found)
+        let p = self.place(full, station)?;
+        if full.counts[p] <= self.counts[p] {
+            return None;
+        }
+        let mut next = self;
+        next.counts[p] += 1;
+        Some(next)
     }
 
-    // The cut one event of the station further back, or that there is none; the place as in `forward`.
-    pub fn back(self, full: Cut, station: u8) -> Moved
+    // The cut one event of the station further back, or nothing as in `forward`.
+    #[tactic(auto, using(crate::proofs::WalkLaws::back_steps))]
+    pub fn back(self, full: Cut, station: u8) -> Option<Cut>
         ensures { result ≡ back_of full self station }
     {
-        let p = (station as usize + 7) % 8;
-        let x = count(self, p);
-        let found = has_station(full, self, station) & (0 < x);
-        step_to(self, p, x - found as usize, found)
+        let p = self.place(full, station)?;
+        let mut next = self;
+        next.counts[p] = self.counts[p].checked_sub(1)?;
+        Some(next)
+    }
+
+    // The place of the station, nothing where this is no cut of the recording or that no station of it.
+    #[tactic(auto, using(crate::proofs::WalkLaws::no_station, crate::proofs::WalkLaws::placed))]
+    fn place(self, full: Cut, station: u8) -> Option<usize>
+        ensures { MatchOption result ((is_cut full self && is_station full station) ≡ false) (λ p. ((is_cut full self && is_station full station) ≡ true) × (p ≡ station - 1) × (p < 8)) }
+    {
+        walk(full, self)?;
+        if full.n < station {
+            return None;
+        }
+        usize::from(station).checked_sub(1)
     }
 }
 
-// The box of the recording, 65,537 once it is above 65,536; 0 where there is no such recording.
+// The box of the recording, 65,537 once it is above 65,536; 0, the number of its cuts, where there is no such recording: a number, no flag.
 pub fn box_of(full: Cut) -> usize
     ensures { result ≡ box_of full }
 {
-    walk(full, full).size
+    walk(full, full).map_or(0, |w| w.size)
 }
 
 // The rank of c, nothing where it is no cut of the recording or the box is above 65,536.
-pub fn rank(c: Cut, full: Cut) -> Ranked
+#[tactic(auto, using(crate::proofs::WalkLaws::rank_none))]
+pub fn rank(c: Cut, full: Cut) -> Option<usize>
     ensures { result ≡ rank_of full c }
 {
-    let w = walk(full, c);
-    if (0 < w.size) & (w.size <= 65536) {
-        return Ranked::At(w.rank);
+    let w = walk(full, c)?;
+    if 65536 < w.size {
+        return None;
     }
-    Ranked::Nothing
+    Some(w.rank)
 }
 
-// T, the events of the recording: the sum of the counts of the stations 1 to n; 0 where there is no such recording.
+// T, the events of the recording: the sum of the counts of the stations 1 to n; 0, as many as there are, where there is no such recording.
 pub fn events(full: Cut) -> usize
     ensures { result ≡ events_of full }
 {
-    let w = walk(full, full);
-    w.events * (0 < w.size) as usize
+    walk(full, full).map_or(0, |w| w.events)
 }
 
-// Whether c is a cut of the recording, and this a station of it.
-fn has_station(full: Cut, c: Cut, station: u8) -> bool
-    ensures { result ≡ (is_cut full c && is_station full station) }
-{
-    (0 < walk(full, c).size) & ((1 <= station) & (station <= full.n))
-}
-
-// c with the count x at place p, as a step's answer.
-fn step_to(c: Cut, p: usize, x: usize, found: bool) -> Moved
-    requires { (p < 8) × (x < 65536) }
-    ensures { result ≡ record { found = found; cut = with_count c p x } }
-{
-    let mut next = c;
-    next.counts[p] = x as u16;
-    Moved { found, cut: next }
-}
-
-// One walk over the eight places: the size starts as 1 where the n of both will do, and is 0 from the first place on whose counts will not.
-fn walk(full: Cut, c: Cut) -> Walked
+// One walk over the eight places; nothing where c is no cut of the recording.
+fn walk(full: Cut, c: Cut) -> Option<Walked>
     ensures { Walks full c result }
 {
-    let n = full.n as usize;
-    let mut size = ((1 <= n) & (n <= 8) & (c.n == full.n)) as usize;
-    let mut rank: usize = 0;
-    let mut events: usize = 0;
-    let mut p: usize = 0;
-    while p < 8 {
-        let m = count(full, p);
-        let x = count(c, p);
-        events = events + m;
-        rank = rank + x * size;
-        size = held(size * (m + 1)) * ((x <= m) & ((p < n) | (m < 1))) as usize;
-        p += 1;
+    let n = usize::from(full.n);
+    if n < 1 || 8 < n || c.n != full.n {
+        return None;
     }
-    Walked { size, rank, events }
-}
-
-// The count at place p.
-fn count(c: Cut, p: usize) -> usize
-    requires { p < 8 }
-    ensures { (result ≡ at c.counts p) × (result < 65536) }
-{
-    c.counts[p] as usize
-}
-
-// A product of the box, held at 65,537 once it is above 65,536.
-fn held(x: usize) -> usize
-    ensures { result ≡ min x 65537 }
-{
-    if 65536 < x {
-        return 65537;
+    let mut size = 1;
+    let mut rank = 0;
+    let mut events = 0;
+    for p in 0..8 {
+        let m = usize::from(full.counts[p]);
+        let x = usize::from(c.counts[p]);
+        if m < x || (n <= p && 0 < m) {
+            return None;
+        }
+        events += m;
+        rank += x * size;
+        size = (size * (m + 1)).min(65537);
     }
-    x
+    Some(Walked { size, rank, events })
 }

@@ -19,7 +19,7 @@ use Rattle.recording.specs.Recording as recorded
 use Rattle.recording.specs.Form.{recording_of, lead8, width8, n_at, m_at, first_at}
 use Rattle.recording.specs.Check.{checked_of}
 use Rattle.recording.specs.Decode.{full_of, events_at, stamps_fit, levels_fit}
-use Rattle.recording.specs.declared.Checked.{Checked}
+use Rattle.std.specs.Prelude.{Ok}
 use Rattle.recording.proofs.AcceptedRight.{accepted_accepts}
 use Rattle.recording.proofs.DecodeLaws.{events_at-in, events_at-lt}
 use Rattle.recording.proofs.DecodeRight.{full_cut_counts, full_cut_full}
@@ -28,7 +28,7 @@ use Rattle.recording.proofs.PlaceLaws.{first_at-le}
 use Rattle.recording.proofs.SumLaws.{sum_to-most}
 use Rattle.engine.specs.Prepare.{Short, first_of}
 
-module _ (s : List ℕ) (full : Cut) (accepts : checked_of lead8 width8 s ≡ Checked.Accepted) (Full-is : full ≡ full_of lead8 width8 s) where
+module _ (s : List ℕ) (full : Cut) (accepts : checked_of lead8 width8 s ≡ Ok tt) (Full-is : full ≡ full_of lead8 width8 s) where
   abbrev m : List ℕ
   m = recorded.counts_of (recording_of lead8 width8 s)
 

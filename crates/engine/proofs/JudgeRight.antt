@@ -27,29 +27,39 @@ use Rattle.cuts.proofs.VerdictRight.{poss_right, poss_unique, def_right, def_uni
 use Rattle.cuts.proofs.DemandRight.{by_orders}
 use Rattle.recording.specs.Recording.{messages, stamps, levels}
 use Rattle.recording.specs.Form.{lead8, width8}
-use Rattle.recording.specs.Check.{at_whole, checked_records, checked_of}
-use Rattle.recording.specs.declared.Refusal.{Refusal}
-use Rattle.recording.specs.declared.Checked.{Checked}
-use Rattle.recording.proofs.CheckLaws.{accepted_not, or_else-accepted}
+use Rattle.recording.specs.Check.{checked_records, checked_of}
+use Rattle.refusal.specs.declared.Refusal.{Refusal}
+use Rattle.std.specs.Prelude.{Result, Ok, Err, Some, None}
+use Rattle.std.specs.Prelude as rust
+use Rattle.refusal.specs.Refusal.{Checked, at_whole}
+use Rattle.recording.proofs.CheckLaws.{or_else-accepted}
 use Rattle.recording.proofs.CheckRight.{scan_formed, scan_stamped}
 use Rattle.recording.proofs.AcceptedRight.{accepted_accepts}
 use Rattle.recording.proofs.FormLaws.{stations_read}
 use Rattle.condition.specs.Condition.{refused_of, holds_of}
-use Rattle.engine.specs.Job.{part_of, R, C, m, L, checked_job, poss_in, def_in, no_cut, Verdicts, Judged, refused, accepted}
+use Rattle.engine.specs.Job.{part_of, R, C, m, L, checked_job, counts_in, poss_in, def_in, Verdicts, Judged, refused, accepted}
 use Rattle.marks.proofs.FlatRight.{def_length}
 use Rattle.engine.specs.Computed.{Computed, reply_of, path_then}
-use Rattle.engine.specs.declared.Reply.{Reply}
+use Rattle.marks.specs.declared.Verdicts as marked
+use Rattle.marks.specs.Flat.{cut_of_counts}
+
+abbrev Verdict : Type 0
+Verdict = marked.Verdicts
+
+-- accepted is not refused
+pub accepted_not : {x : Refusal} → ◌≡◌ {A = Checked} (Ok tt) (Err x) → ⊥
+accepted_not e = let z : ◌≡◌ {A = ℕ} 0 1 = cc in absurd (omega arith)
 
 module _ (job : List ℕ) where
   -- an accepted job's recording is accepted
-  pub recording_accepted : (marks path : ℕ) → checked_job job marks path ≡ Checked.Accepted → checked_of lead8 width8 (part_of job) ≡ Checked.Accepted
+  pub recording_accepted : (marks path : ℕ) → checked_job job marks path ≡ Ok tt → checked_of lead8 width8 (part_of job) ≡ Ok tt
   unfolding checked_job
   recording_accepted marks path h =
       let (a, b) = or_else-accepted (at_whole (refused_of job)) _ h in
       (or_else-accepted (checked_of lead8 width8 (part_of job)) _ b).0
 
   -- so its records are formed and stamped
-  pub job_formed : checked_of lead8 width8 (part_of job) ≡ Checked.Accepted → Formed (messages (R job)) × Stamped (messages (R job)) (stamps (R job))
+  pub job_formed : checked_of lead8 width8 (part_of job) ≡ Ok tt → Formed (messages (R job)) × Stamped (messages (R job)) (stamps (R job))
   unfolding checked_records
   job_formed h =
       let a = (accepted_accepts lead8 width8 (part_of job) h).records in
@@ -59,9 +69,9 @@ module _ (job : List ℕ) where
   length_table = length_tabled (mark_of (L job)) (m job) (box (m job))
 
   -- what is computed meets the promise
-  pub computed_verdicts : (marks path marks' path' : List ℕ) (r : Reply) → checked_of lead8 width8 (part_of job) ≡ Checked.Accepted
+  pub computed_verdicts : (marks path marks' path' : List ℕ) (r : Verdict) → checked_of lead8 width8 (part_of job) ≡ Ok tt
       → poss_in r ≡ poss_of (L job) → def_in (total (m job)) r path' ≡ def_of (L job)
-      → r.witness ≡ record { counts = tab 8 (at (cond r.poss (counts_of r.witness) [])); n = length (m job) }
+      → ((w : Cut) → r.witness ≡ Some w → w ≡ record { counts = tab 8 (at (counts_of w)); n = length (m job) })
       → marks' ≡ table (L job) ++ drop (box (m job)) marks → box (m job) ≤ length marks
       → (r.def ≡ false → (i : ℕ) → i < total (m job) → 0 < at path' i) → drop (total (m job)) path' ≡ drop (total (m job)) path → length path' ≡ length path
       → (r.def ≡ true → path' ≡ path) → Verdicts job marks path r marks' path'
@@ -110,9 +120,11 @@ module _ (n t : ℕ) (n_most : n ≤ 8) where
   said_poss (some c) def h = ap some (padded_back n c (h c refl) n_most)
 
   said_witness : (poss def : Option (List ℕ)) → ((c : List ℕ) → poss ≡ some c → length c ≡ n)
-      → (reply_of n poss def).witness ≡ record { counts = tab 8 (at (cond (reply_of n poss def).poss (counts_of (reply_of n poss def).witness) [])); n = n }
-  said_witness none def h = refl
-  said_witness (some c) def h = ap (λ (k : List ℕ). record { counts = tab 8 (at k); n = n }) (sym (padded_back n c (h c refl) n_most))
+      → (w : Cut) → (reply_of n poss def).witness ≡ Some w → w ≡ record { counts = tab 8 (at (counts_of w)); n = n }
+  said_witness none def h w e = let z : ◌≡◌ {A = ℕ} 0 1 = cc in absurd (omega arith)
+  said_witness (some c) def h w e =
+      let z : w ≡ cut_of_counts n c = cc in
+      rw z (ap (λ (k : List ℕ). record { counts = tab 8 (at k); n = n }) (sym (padded_back n c (h c refl) n_most)))
 
   said_def : (poss def : Option (List ℕ)) (path : List ℕ) → ((p : List ℕ) → def ≡ some p → length p ≡ t) → def_in t (reply_of n poss def) (path_then t def path) ≡ def
   said_def poss none path h = refl
@@ -138,7 +150,7 @@ module _ (n t : ℕ) (n_most : n ≤ 8) where
   said_kept poss (some p) path e = absurd (false≢true e)
 
 -- what is computed of an accepted job whose rooms suffice are its verdicts
-pub computed_judged : (job marks path marks' path' : List ℕ) (r : Reply) → checked_of lead8 width8 (part_of job) ≡ Checked.Accepted → box (m job) ≤ length marks → total (m job) ≤ length path
+pub computed_judged : (job marks path marks' path' : List ℕ) (r : Verdict) → checked_of lead8 width8 (part_of job) ≡ Ok tt → box (m job) ≤ length marks → total (m job) ≤ length path
     → Computed (C job) (part_of job) marks path r marks' path' → Verdicts job marks path r marks' path'
 computed_judged job marks path marks' path' r h room room' z =
     rw (z.reply, z.path_after)
@@ -166,12 +178,6 @@ computed_judged job marks path marks' path' r h room room' z =
     stepped p e = def_length (L job) p e
 
 -- two options made by a flag
-some_flag : {A : Type 0} (b b' : Bool) (x x' : A) → cond b (some x) none ≡ cond b' (some x') none → (b ≡ b') × (b ≡ true → x ≡ x')
-some_flag true true x x' e = (refl, λ h. cc)
-some_flag true false x x' e = let z : ◌≡◌ {A = ℕ} 0 1 = cc in absurd (omega arith)
-some_flag false true x x' e = let z : ◌≡◌ {A = ℕ} 0 1 = cc in absurd (omega arith)
-some_flag false false x x' e = (refl, λ h. absurd (false≢true h))
-
 none_flag : {A : Type 0} (b b' : Bool) (x x' : A) → cond b none (some x) ≡ cond b' none (some x') → (b ≡ b') × (b ≡ false → x ≡ x')
 none_flag true true x x' e = (refl, λ h. absurd (false≢true (sym h)))
 none_flag true false x x' e = let z : ◌≡◌ {A = ℕ} 0 1 = cc in absurd (omega arith)
@@ -188,37 +194,34 @@ front_and_rest t a b len front rest = ext_get_or 0 a b len (λ i h. go i h (dec_
         let e : t + (i - t) ≡ i = omega arith in
         rw e at (sym (get_or-drop t a (i - t) 0) ∙ ap (λ (d : List ℕ). at d (i - t)) rest ∙ get_or-drop t b (i - t) 0)
 
-reply_alike : (r r' : Reply) → r.answer ≡ r'.answer → r.poss ≡ r'.poss → r.witness ≡ r'.witness → r.def ≡ r'.def → r ≡ r'
-reply_alike r r' a b c d =
-    ap₂ {C = Reply} (λ x y. record { answer = x; poss = y; witness = r.witness; def = r.def }) a b
-    ∙ ap₂ {C = Reply} (λ x y. record { answer = r'.answer; poss = r'.poss; witness = x; def = y }) c d
-
 at_map_pred : (l : List ℕ) (i : ℕ) → at (map pred l) i ≡ pred (at l i)
 at_map_pred [] i = refl
 at_map_pred (x ∷ l) zero = refl
 at_map_pred (x ∷ l) (suc i) = at_map_pred l i
 
-module _ (job marks path : List ℕ) (r r' : Reply) (a b a' b' : List ℕ) (v : Verdicts job marks path r a b) (v' : Verdicts job marks path r' a' b') where
+module _ (job marks path : List ℕ) (r r' : Verdict) (a b a' b' : List ℕ) (v : Verdicts job marks path r a b) (v' : Verdicts job marks path r' a' b') where
   abbrev t : ℕ
   t = total (m job)
 
-  same_poss : (r.poss ≡ r'.poss) × (r.poss ≡ true → counts_of r.witness ≡ counts_of r'.witness)
-  same_poss = some_flag r.poss r'.poss _ _ (poss_unique (L job) _ _ v.poss_is v'.poss_is)
-
-  same_def : (r.def ≡ r'.def) × (r.def ≡ false → map pred (take t b) ≡ map pred (take t b'))
-  same_def = none_flag r.def r'.def _ _ (def_unique (L job) _ _ v.def_is v'.def_is)
-
   same_witness : r.witness ≡ r'.witness
-  same_witness = v.witness_is ∙ ap padded (go r.poss r'.poss same_poss.0 same_poss.1) ∙ sym v'.witness_is
+  same_witness = go r.witness r'.witness refl refl (poss_unique (L job) _ _ v.poss_is v'.poss_is)
     where
       padded : List ℕ → Cut
       padded c = record { counts = tab 8 (at c); n = length (m job) }
 
-      go : (f f' : Bool) → f ≡ f' → (f ≡ true → counts_of r.witness ≡ counts_of r'.witness) → cond f (counts_of r.witness) [] ≡ cond f' (counts_of r'.witness) []
-      go true true e h = h refl
-      go true false e h = absurd (false≢true (sym e))
-      go false true e h = absurd (false≢true e)
-      go false false e h = refl
+      go : (x x' : rust.Option Cut) → r.witness ≡ x → r'.witness ≡ x' → counts_in x ≡ counts_in x' → x ≡ x'
+      go None None e e' h = refl
+      go None (Some w) e e' h = let z : ◌≡◌ {A = ℕ} 0 1 = cc in absurd (omega arith)
+      go (Some w) None e e' h = let z : ◌≡◌ {A = ℕ} 0 1 = cc in absurd (omega arith)
+      go (Some w) (Some w') e e' h =
+          let z : counts_of w ≡ counts_of w' = cc in
+          ap Some (v.witness_is w e ∙ ap padded z ∙ sym (v'.witness_is w' e'))
+
+  same_def : (r.def ≡ r'.def) × (r.def ≡ false → map pred (take t b) ≡ map pred (take t b'))
+  same_def = none_flag r.def r'.def _ _ (def_unique (L job) _ _ v.def_is v'.def_is)
+
+  same_verdicts : r ≡ r'
+  same_verdicts = ap₂ {C = Verdict} (λ x y. record { witness = x; def = y }) same_witness same_def.0
 
   same_marks : a ≡ a'
   same_marks = front_and_rest (box (m job)) a a' (v.marks_length ∙ sym v'.marks_length) (λ i l h. mark i l) (v.marks_rest ∙ sym v'.marks_rest)
@@ -244,14 +247,14 @@ module _ (job marks path : List ℕ) (r r' : Reply) (a b a' b' : List ℕ) (v : 
       go false d = front_and_rest t b b' (v.path_length ∙ sym v'.path_length) (λ i l h. step d i l) (v.path_rest ∙ sym v'.path_rest)
 
 -- two permitted replies, with their rooms, are equal
-pub judged_unique : (job marks path : List ℕ) (r r' : Reply) (a b a' b' : List ℕ) → Judged job marks path r a b → Judged job marks path r' a' b' → (r ≡ r') × (a ≡ a') × (b ≡ b')
+pub judged_unique : (job marks path : List ℕ) (r r' : Result Verdict Refusal) (a b a' b' : List ℕ) → Judged job marks path r a b → Judged job marks path r' a' b' → (r ≡ r') × (a ≡ a') × (b ≡ b')
 judged_unique job marks path r r' a b a' b' (refused {x = x} e) (refused {x = y} e') =
     let z : x ≡ y = cc in
-    (ap (λ (k : Refusal). record { answer = Checked.Refused k; poss = false; witness = no_cut; def = false }) z, refl, refl)
-judged_unique job marks path r r' a b a' b' (refused e) (accepted e' f v) = absurd (accepted_not (sym e' ∙ e))
-judged_unique job marks path r r' a b a' b' (accepted e f v) (refused e') = absurd (accepted_not (sym e ∙ e'))
-judged_unique job marks path r r' a b a' b' (accepted e f v) (accepted e' f' v') = (
-  reply_alike r r' (f ∙ sym f') (same_poss job marks path r r' a b a' b' v v').0 (same_witness job marks path r r' a b a' b' v v') (same_def job marks path r r' a b a' b' v v').0,
-  same_marks job marks path r r' a b a' b' v v',
-  same_path job marks path r r' a b a' b' v v',
+    (ap Err z, refl, refl)
+judged_unique job marks path r r' a b a' b' (refused e) (accepted e' v) = absurd (accepted_not (sym e' ∙ e))
+judged_unique job marks path r r' a b a' b' (accepted e v) (refused e') = absurd (accepted_not (sym e ∙ e'))
+judged_unique job marks path r r' a b a' b' (accepted {v = x} e v) (accepted {v = y} e' v') = (
+  ap Ok (same_verdicts job marks path x y a b a' b' v v'),
+  same_marks job marks path x y a b a' b' v v',
+  same_path job marks path x y a b a' b' v v',
 )

@@ -9,7 +9,9 @@ use borrow.Author.Tests.{leb-true, le-leb, lt-leb, lt-ltb, le-ltb}
 use Rattle.cuts.specs.Below.{every}
 use Rattle.cuts.proofs.BelowLaws.{or_right, every_true, true_every, every_false, every_more}
 use Rattle.recording.specs.Check.{fault_of}
-use Rattle.recording.proofs.CheckLaws.{Pass, no_test, and_then, Numbered, no_number, and_number, pass_fault, fault_pass, fault_next, fault_here}
+use Rattle.std.specs.Prelude.{Ok, Err}
+use Rattle.recording.proofs.CheckLaws.{Pass, no_test, and_then, pass_fault, fault_pass, fault_next, fault_here}
+use Rattle.refusal.specs.declared.Reason.{Reason}
 use Rattle.condition.specs.Condition.{window_at}
 use Rattle.condition.specs.declared.Condition.{Condition}
 use Rattle.engine.specs.Job.{none_above, room_tests}
@@ -36,26 +38,26 @@ module _ (c : Condition) (n : ℕ) where
   unasked_all p h l = sym (true_every 8 _ (λ q k. every_true p _ h q (omega arith)))
 
 module _ (c : Condition) (n b t marks path : ℕ) where
-  pub room_9 : none_above c n ≡ false → 9 ≡ fault_of (room_tests c n b t marks path)
+  pub room_9 : none_above c n ≡ false → Err Reason.Asked ≡ fault_of (room_tests c n b t marks path)
   unfolding room_tests
   room_9 h = sym (fault_here _ _ h)
 
   module _ (asked : none_above c n ≡ true) where
-    pub room_10 : 65536 < b → 10 ≡ fault_of (room_tests c n b t marks path)
+    pub room_10 : 65536 < b → Err Reason.BoxSize ≡ fault_of (room_tests c n b t marks path)
     unfolding room_tests
     room_10 h = sym (fault_next _ _ asked ∙ fault_here _ _ (lt-leb b 65536 h))
 
     module _ (small : b ≤ 65536) where
-      pub room_11 : marks < b → 11 ≡ fault_of (room_tests c n b t marks path)
+      pub room_11 : marks < b → Err Reason.MarksRoom ≡ fault_of (room_tests c n b t marks path)
       unfolding room_tests
       room_11 h = sym (fault_next _ _ asked ∙ fault_next _ _ (le-leb b 65536 small) ∙ fault_here _ _ (lt-leb b marks h))
 
       module _ (fits : b ≤ marks) where
-        pub room_12 : path < t → 12 ≡ fault_of (room_tests c n b t marks path)
+        pub room_12 : path < t → Err Reason.PathRoom ≡ fault_of (room_tests c n b t marks path)
         unfolding room_tests
         room_12 h = sym (fault_next _ _ asked ∙ fault_next _ _ (le-leb b 65536 small) ∙ fault_next _ _ (le-leb b marks fits) ∙ fault_here _ _ (lt-leb t path h))
 
-        pub room_0 : t ≤ path → 0 ≡ fault_of (room_tests c n b t marks path)
+        pub room_0 : t ≤ path → Ok tt ≡ fault_of (room_tests c n b t marks path)
         unfolding room_tests
         room_0 h = sym (pass_fault (and_then asked (and_then (le-leb b 65536 small) (and_then (le-leb b marks fits) (and_then (le-leb t path h) no_test)))))
 
@@ -66,18 +68,10 @@ module _ (c : Condition) (n b t marks path : ℕ) where
     pub fits : b ≤ marks
     pub holds : t ≤ path
 
-  pub no_fault : fault_of (room_tests c n b t marks path) ≡ 0 → Suffices
+  pub no_fault : fault_of (room_tests c n b t marks path) ≡ Ok tt → Suffices
   unfolding room_tests
-  no_fault h = go (fault_pass (room_tests c n b t marks path) numbered h)
+  no_fault h = go (fault_pass (room_tests c n b t marks path) h)
     where
-      numbered : Numbered (room_tests c n b t marks path)
-      numbered =
-          let h₉ : 0 < 9 = omega arith in
-          let h₁₀ : 0 < 10 = omega arith in
-          let h₁₁ : 0 < 11 = omega arith in
-          let h₁₂ : 0 < 12 = omega arith in
-          and_number h₉ (and_number h₁₀ (and_number h₁₁ (and_number h₁₂ no_number)))
-
       go : Pass (room_tests c n b t marks path) → Suffices
       go (and_then t₁ (and_then t₂ (and_then t₃ (and_then t₄ no_test)))) = record {
         asked = t₁;

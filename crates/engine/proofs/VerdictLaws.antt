@@ -2,7 +2,8 @@
 -- recording's; what is settled. Assumes nothing.
 use mathlib.Core.Path.{◌≡◌, refl, sym, ap, ap₂, ◌∙◌}
 use mathlib.Core.Bool.{Bool, true, false, ◌||◌, not}
-use mathlib.Core.Option.{Option, none, some}
+use mathlib.Core.Option.{none, some}
+use mathlib.Core.Option as math
 use mathlib.Core.List.{List, ◌++◌}
 use Prim.Native.Nat.{ℕ, suc, ◌+◌, ◌*◌, ◌≤◌, ◌<◌}
 use native.Mathlib.Omega.{arith}
@@ -22,19 +23,19 @@ use Rattle.levels.specs.Level.{level_of}
 use Rattle.recording.specs.Recording as recorded
 use Rattle.recording.specs.Form.{recording_of, lead8, width8, n_at}
 use Rattle.recording.specs.Decode.{starts_of}
-use Rattle.recording.specs.declared.Checked.{Checked}
+use Rattle.std.specs.Prelude.{Option, Some, IsSome}
 use Rattle.recording.proofs.DecodeRight.{starts_level, stamps_stamp, levels_level}
 use Rattle.condition.specs.Condition.{window_at}
 use Rattle.condition.specs.Weigh.{limits_of}
 use Rattle.condition.specs.declared.Condition.{Condition}
 use Rattle.condition.specs.declared.Limits.{Limits}
-use Rattle.marks.specs.Flat.{flat, row_there, filled, settleable, settled_of, witness_of, avoided, walked, Settles}
-use Rattle.marks.specs.declared.Settled as marked
+use Rattle.marks.specs.Flat.{flat, row_there, filled, settleable, witness_of, avoided, walked, Settles}
+use Rattle.marks.specs.declared.Task.{Task}
+use Rattle.marks.specs.declared.Verdicts.{Verdicts}
 use Rattle.marks.proofs.FlatRight.{Agreeing, table_same, witness_poss, walked_def, laid_in, is_path}
 use Rattle.engine.specs.Job.{none_above}
 use Rattle.engine.specs.Prepare.{Short, Shifts, rows_to, first_of, needs_to, weights_to, station_need, station_weight}
-use Rattle.engine.specs.Computed.{Settled, Computed, lattice_of, reply_of, path_then}
-use Rattle.engine.specs.declared.Reply.{Reply}
+use Rattle.engine.specs.Computed.{Settled, Computed, lattice_of, given, reply_of, path_then}
 use Rattle.engine.proofs.FullLaws.{n_full, n_most, stations_full, short_full, full_full, counts_full, count_full, count_both, first_full, stamps_there, levels_there}
 use Rattle.engine.proofs.PrepareLaws.{rows_long, rows_to-more, rows_to-le}
 use Rattle.engine.proofs.PrepareRight.{consistent_same, holds_same}
@@ -79,13 +80,28 @@ above_unasked c n h p l k = go (window_at c p).asked (every_true 8 _ h p k)
     go true e = sym e ∙ le-ltb p n l
     go false e = refl
 
-module _ (c : Condition) (s : List ℕ) (full : Cut) (stamps levels : List ℕ) (marks path : List ℕ) (z : Settled c s full stamps levels (length marks) (length path))
-    (starts bases d needs d' weights : List ℕ) (l : Limits) (long : length d ≡ 32768) (long' : length d' ≡ 4096)
+module _ (c : Condition) (s : List ℕ) (task : Task) (stamps levels : List ℕ) (marks path : List ℕ) (z : Settled c s task.full stamps levels (length marks) (length path))
+    (starts d d' : List ℕ) (long : length d ≡ 32768) (long' : length d' ≡ 4096)
     (starts-are : starts ≡ starts_of lead8 width8 s)
-    (bases-are : bases ≡ tab 8 (rows_to full.counts))
-    (needs-are : needs ≡ needs_to full.counts stamps full.n ++ drop (8 * rows_to full.counts full.n) d)
-    (weights-are : weights ≡ weights_to full.counts c starts levels full.n ++ drop (1 * rows_to full.counts full.n) d')
-    (shifts : Shifts (limits_of c) l) where
+    (bases-are : task.bases ≡ tab 8 (rows_to task.full.counts))
+    (needs-are : task.needs.now ≡ needs_to task.full.counts stamps task.full.n ++ drop (8 * rows_to task.full.counts task.full.n) d)
+    (weights-are : task.weights.now ≡ weights_to task.full.counts c starts levels task.full.n ++ drop (1 * rows_to task.full.counts task.full.n) d')
+    (shifts : Shifts (limits_of c) (record { least = task.least; most = task.most })) where
+  abbrev full : Cut
+  full = task.full
+
+  abbrev bases : List ℕ
+  bases = task.bases
+
+  abbrev needs : List ℕ
+  needs = task.needs.now
+
+  abbrev weights : List ℕ
+  weights = task.weights.now
+
+  abbrev l : Limits
+  l = record { least = task.least; most = task.most }
+
   abbrev R : recorded.Recording
   R = recording_of lead8 width8 s
 
@@ -144,22 +160,25 @@ module _ (c : Condition) (s : List ℕ) (full : Cut) (stamps levels : List ℕ) 
   way : (avoided full after ≡ is_path (def_of (lattice_of c s))) × (walked full after path ≡ laid_in (total (counts_of full)) (def_of (lattice_of c s)) path)
   way = walked_def full (lattice_of c s) (sym counts) after _ after_is path
 
-  -- the reply of the marks is that of the recording
-  replied : (poss def : Option (List ℕ))
-      → (let v = settled_of full.n poss (not (is_path def)) in ◌≡◌ {A = Reply} (record { answer = Checked.Accepted; poss = v.poss; witness = v.witness; def = v.def }) (reply_of (length (recorded.counts_of R)) poss def))
-  replied none none = rw (stations_full s full z.accepts z.full_is) refl
-  replied none (some d) = rw (stations_full s full z.accepts z.full_is) refl
-  replied (some p) none = rw (stations_full s full z.accepts z.full_is) refl
-  replied (some p) (some d) = rw (stations_full s full z.accepts z.full_is) refl
+  -- a path that is there is evidence
+  path_given : (def : math.Option (List ℕ)) → is_path def ≡ given def
+  path_given none = refl
+  path_given (some d) = refl
 
-  laid : (def : Option (List ℕ)) → laid_in (total (counts_of full)) def path ≡ path_then (total (recorded.counts_of R)) def path
+  laid : (def : math.Option (List ℕ)) → laid_in (total (counts_of full)) def path ≡ path_then (total (recorded.counts_of R)) def path
   laid none = refl
   laid (some d) = rw counts refl
 
-  pub computed : (v : marked.Settled) (marks' path' : List ℕ) → Settles full bases l.least l.most needs weights marks path v marks' path'
-      → Computed c s marks path (record { answer = Checked.Accepted; poss = v.poss; witness = v.witness; def = v.def }) marks' path'
+  settled : (r : Option Verdicts) (marks' path' : List ℕ) → Settles task marks path r marks' path' → r ≡ Some (reply_of (length (recorded.counts_of R)) (poss_of (lattice_of c s)) (def_of (lattice_of c s)))
+  settled r marks' path' t = rw (ready, found, way.0, path_given (def_of (lattice_of c s)), ← stations_full s full z.accepts z.full_is) at t.reply
+
+  -- there are verdicts
+  pub there : (r : Option Verdicts) (marks' path' : List ℕ) → Settles task marks path r marks' path' → IsSome r
+  there r marks' path' t = rw (settled r marks' path' t) refl
+
+  pub computed : (v : Verdicts) (marks' path' : List ℕ) → Settles task marks path (Some v) marks' path' → Computed c s marks path v marks' path'
   computed v marks' path' t = record {
-    reply = ap {B = Reply} (λ (x : marked.Settled). record { answer = Checked.Accepted; poss = x.poss; witness = x.witness; def = x.def }) (rw (ready, found, way.0) at t.reply) ∙ replied (poss_of (lattice_of c s)) (def_of (lattice_of c s));
+    reply = let e = settled (Some v) marks' path' t in cc;
     marks_after = rw ready at t.marks_after ∙ after_is;
     path_after = rw ready at t.path_after ∙ way.1 ∙ laid (def_of (lattice_of c s));
   }

@@ -1,6 +1,6 @@
 -- The reply as it is computed: read off the tables of marks and of possible and definite verdicts. Nothing here has to be believed: `JudgeRight` proves
 -- that what is computed is what `Judged` promises in the law's words.
-use Rattle.std.specs.Prelude.{◌≡◌, Bool, true, false, not, List, [], ◌++◌, map, ℕ, suc, ◌≤◌, length, drop, replicate}
+use Rattle.std.specs.Prelude.{◌≡◌, Bool, true, false, not, List, [], ◌++◌, map, ℕ, suc, ◌≤◌, length, drop, replicate, Result, Ok, Err}
 use Rattle.std.proofs.Math.Option.{Option, none, some}
 use Rattle.cuts.specs.Cut.{total}
 use Rattle.cuts.specs.Rank.{box}
@@ -11,16 +11,15 @@ use Rattle.cut.specs.declared.Cut.{Cut}
 use Rattle.recording.specs.Recording.{Recording, messages, stamps, levels}
 use Rattle.recording.specs.Recording as recorded
 use Rattle.recording.specs.Form.{recording_of, lead8, width8}
-use Rattle.recording.specs.Check.{fault_of, at_whole, or_else, checked_of}
+use Rattle.recording.specs.Check.{fault_of, checked_of}
+use Rattle.refusal.specs.Refusal.{Checked, at_whole, or_else}
+use Rattle.refusal.specs.declared.Refusal.{Refusal}
 use Rattle.recording.specs.Decode.{full_of, stamps_in, levels_in}
-use Rattle.recording.specs.declared.Refusal.{Refusal}
-use Rattle.recording.specs.declared.Checked.{Checked}
 use Rattle.condition.specs.Condition.{holds_of}
 use Rattle.condition.specs.declared.Condition.{Condition}
-use Rattle.marks.specs.Flat.{cut_of_counts}
-use Rattle.marks.specs.declared.Settled as Settles
-use Rattle.engine.specs.Job.{none_above, room_tests, refused_by}
-use Rattle.engine.specs.declared.Reply.{Reply}
+use Rattle.marks.specs.Flat.{settled_of}
+use Rattle.marks.specs.declared.Verdicts.{Verdicts}
+use Rattle.engine.specs.Job.{none_above, room_tests}
 
 module _ (c : Condition) (s : List ℕ) where
   abbrev R : Recording
@@ -39,7 +38,7 @@ module _ (c : Condition) (s : List ℕ) where
 
   -- the recording is accepted, its tables are laid out, no station that it lacks is asked and the rooms suffice
   pub record Settled (full : Cut) (stamps levels : List ℕ) (marks path : ℕ) : Type 0 where
-    pub accepts : checked_of lead8 width8 s ≡ Checked.Accepted
+    pub accepts : checked_of lead8 width8 s ≡ Ok tt
     pub full_is : full ≡ full_of lead8 width8 s
     pub stamps_are : stamps ≡ stamps_in lead8 width8 s (replicate 32704 0)
     pub levels_are : levels ≡ levels_in lead8 width8 s (replicate 4088 0)
@@ -50,7 +49,7 @@ module _ (c : Condition) (s : List ℕ) where
 
 -- a recording that is accepted, and its tables
 pub record Laid (s stamps levels : List ℕ) : Type 0 where
-  pub accepts : checked_of lead8 width8 s ≡ Checked.Accepted
+  pub accepts : checked_of lead8 width8 s ≡ Ok tt
   pub stamps_are : stamps ≡ stamps_in lead8 width8 s (replicate 32704 0)
   pub levels_are : levels ≡ levels_in lead8 width8 s (replicate 4088 0)
 
@@ -64,31 +63,22 @@ abbrev pub evidence : Option (List ℕ) → List ℕ
 evidence none = []
 evidence (some l) = l
 
--- the reply by the two verdicts on a recording with n stations
-abbrev pub reply_of : ℕ → Option (List ℕ) → Option (List ℕ) → Reply
-reply_of n poss def = record {
-  answer = Checked.Accepted;
-  poss = given poss;
-  witness = cut_of_counts n (evidence poss);
-  def = not (given def);
-}
+-- the verdicts on a recording with n stations, by their evidence
+abbrev pub reply_of : ℕ → Option (List ℕ) → Option (List ℕ) → Verdicts
+reply_of n poss def = settled_of n poss (not (given def))
 
 -- the path room afterwards, for a recording with t events
 abbrev pub path_then : ℕ → Option (List ℕ) → List ℕ → List ℕ
 path_then t none room = room
 path_then t (some path) room = map suc path ++ drop t room
 
-pub record Computed (c : Condition) (s marks path : List ℕ) (r : Reply) (marks' path' : List ℕ) : Type 0 where
-  pub reply : r ≡ reply_of (length (m c s)) (poss_of (lattice_of c s)) (def_of (lattice_of c s))
+pub record Computed (c : Condition) (s marks path : List ℕ) (v : Verdicts) (marks' path' : List ℕ) : Type 0 where
+  pub reply : v ≡ reply_of (length (m c s)) (poss_of (lattice_of c s)) (def_of (lattice_of c s))
   pub marks_after : marks' ≡ table (lattice_of c s) ++ drop (box (m c s)) marks
   pub path_after : path' ≡ path_then (total (m c s)) (def_of (lattice_of c s)) path
 
--- what is settled, as a reply
-abbrev pub accepted_by : Settles.Settled → Reply
-accepted_by v = record { answer = Checked.Accepted; poss = v.poss; witness = v.witness; def = v.def }
-
 -- the reply to a condition and the bytes of a recording: a refusal and nothing changed, or what is computed
-pub data Answered (c : Condition) (s marks path : List ℕ) : Reply → List ℕ → List ℕ → Type 0 where
-  unfit : {x : Refusal} → checked_part c s (length marks) (length path) ≡ Checked.Refused x → Answered c s marks path (refused_by x) marks path
-  fit : {r : Reply} {marks' path' : List ℕ} → checked_part c s (length marks) (length path) ≡ Checked.Accepted → Computed c s marks path r marks' path'
-      → Answered c s marks path r marks' path'
+pub data Answered (c : Condition) (s marks path : List ℕ) : Result Verdicts Refusal → List ℕ → List ℕ → Type 0 where
+  unfit : {x : Refusal} → checked_part c s (length marks) (length path) ≡ Err x → Answered c s marks path (Err x) marks path
+  fit : {v : Verdicts} {marks' path' : List ℕ} → checked_part c s (length marks) (length path) ≡ Ok tt → Computed c s marks path v marks' path'
+      → Answered c s marks path (Ok v) marks' path'

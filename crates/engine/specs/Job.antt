@@ -1,6 +1,7 @@
 -- The reply to a job: document 01, "Refusal numbers", its order for a job, and what is in the rooms after verdicts.
 -- In order: a job's parts; its refusals in the written order; what the verdicts are about; the reply in the law's words; what is promised.
-use Rattle.std.specs.Prelude.{◌≡◌, Bool, true, false, ◌||◌, not, cond, List, [], ◌∷◌, map, ℕ, pred, ◌<◌, length, take, drop, replicate, leb, ltb}
+use Rattle.std.specs.Prelude.{◌≡◌, Bool, true, false, ◌||◌, not, cond, List, [], ◌∷◌, map, ℕ, pred, ◌<◌, length, take, drop, leb, ltb, Result, Ok, Err, Some, None}
+use Rattle.std.specs.Prelude as rust
 use Rattle.std.proofs.Math.Option.{Option, none, some}
 use Rattle.cuts.specs.Below.{every, tab}
 use Rattle.cuts.specs.Cut.{at, total, Within}
@@ -13,12 +14,13 @@ use Rattle.cut.specs.declared.Cut.{Cut}
 use Rattle.recording.specs.Recording.{Recording, messages, stamps, levels}
 use Rattle.recording.specs.Recording as recorded
 use Rattle.recording.specs.Form.{recording_of, lead8, width8}
-use Rattle.recording.specs.Check.{Test, test, fault_of, at_whole, or_else, checked_of}
-use Rattle.recording.specs.declared.Refusal.{Refusal}
-use Rattle.recording.specs.declared.Checked.{Checked}
+use Rattle.recording.specs.Check.{Test, test, fault_of, checked_of}
+use Rattle.refusal.specs.Refusal.{Checked, at_whole, or_else}
+use Rattle.refusal.specs.declared.Reason.{Reason}
+use Rattle.refusal.specs.declared.Refusal.{Refusal}
 use Rattle.condition.specs.Condition.{condition_of, refused_of, window_at, holds_of}
 use Rattle.condition.specs.declared.Condition.{Condition}
-use Rattle.engine.specs.declared.Reply.{Reply}
+use Rattle.marks.specs.declared.Verdicts as marked
 
 -- "the recording is the part of the job that begins at byte 38"
 unfoldable pub part_of : List ℕ → List ℕ
@@ -31,10 +33,10 @@ none_above c n = every 8 (λ p. not (window_at c p).asked || ltb p n)
 -- "then 9, 10, 11, 12", of a condition with n stations, a box, T events and two rooms of so many bytes
 unfoldable pub room_tests : Condition → ℕ → ℕ → ℕ → ℕ → ℕ → List Test
 room_tests c n b t marks path =
-    test 9 (none_above c n)
-    ∷ test 10 (leb b 65536)
-    ∷ test 11 (leb b marks)
-    ∷ test 12 (leb t path)
+    test Reason.Asked (none_above c n)
+    ∷ test Reason.BoxSize (leb b 65536)
+    ∷ test Reason.MarksRoom (leb b marks)
+    ∷ test Reason.PathRoom (leb t path)
     ∷ []
 
 module _ (job : List ℕ) where
@@ -57,48 +59,40 @@ module _ (job : List ℕ) where
   abbrev pub L : Lattice
   L = lattice (messages R) (stamps R) (at_cut (levels R) (holds_of C))
 
--- a reply's answer to Poss: the counts of the witness, or none
-abbrev pub poss_in : Reply → Option (List ℕ)
-poss_in r = cond r.poss (some (counts_of r.witness)) none
+-- the counts of a witness, or none
+abbrev pub counts_in : rust.Option Cut → Option (List ℕ)
+counts_in None = none
+counts_in (Some w) = some (counts_of w)
 
--- a reply's answer to Def: none, or the path in the room's first t bytes, as places
-abbrev pub def_in : ℕ → Reply → List ℕ → Option (List ℕ)
-def_in t r path = cond r.def none (some (map pred (take t path)))
+-- what verdicts say of Poss: the counts of the witness, or none
+abbrev pub poss_in : marked.Verdicts → Option (List ℕ)
+poss_in v = counts_in v.witness
 
--- the cut that stands beside a refusal
-abbrev pub no_cut : Cut
-no_cut = record { counts = replicate 8 0; n = 0 }
+-- .. and of Def: none, or the path in the room's first t bytes, as places
+abbrev pub def_in : ℕ → marked.Verdicts → List ℕ → Option (List ℕ)
+def_in t v path = cond v.def none (some (map pred (take t path)))
 
--- a refusal, and nothing beside it
-abbrev pub refused_by : Refusal → Reply
-refused_by x = record { answer = Checked.Refused x; poss = false; witness = no_cut; def = false }
-
--- a refusal that is about no record
-abbrev pub wholly : ℕ → Refusal
-wholly k = record { number = k; station = 0; event = 0 }
-
--- what holds of an accepted job, of the reply and the rooms before and after
-pub record Verdicts (job marks path : List ℕ) (r : Reply) (marks' path' : List ℕ) : Type 0 where
+-- what holds of an accepted job, of the verdicts and the rooms before and after
+pub record Verdicts (job marks path : List ℕ) (v : marked.Verdicts) (marks' path' : List ℕ) : Type 0 where
   -- the verdicts and their evidence, over consistent cuts
-  pub poss_is : PossIs (L job) (poss_in r)
-  pub def_is : DefIs (L job) (def_in (total (m job)) r path')
+  pub poss_is : PossIs (L job) (poss_in v)
+  pub def_is : DefIs (L job) (def_in (total (m job)) v path')
   -- and over possible orders
-  pub orders : ByOrders (levels (R job)) (holds_of (C job)) (messages (R job)) (poss_in r) (def_in (total (m job)) r path')
-  -- the witness is a cut with the recording's n, 0 beyond its counts; the start where there is none
-  pub witness_is : r.witness ≡ record { counts = tab 8 (at (cond r.poss (counts_of r.witness) [])); n = length (m job) }
+  pub orders : ByOrders (levels (R job)) (holds_of (C job)) (messages (R job)) (poss_in v) (def_in (total (m job)) v path')
+  -- the witness is a cut with the recording's n, 0 beyond its counts
+  pub witness_is : (w : Cut) → v.witness ≡ Some w → w ≡ record { counts = tab 8 (at (counts_of w)); n = length (m job) }
   -- "byte number r of the marks says of the cut with rank r: .."; "Bytes from the box on are unchanged"
   pub marks_say : (c : List ℕ) → Within (m job) c → Says (L job) c (at marks' (rank (m job) c))
   pub marks_rest : drop (box (m job)) marks' ≡ drop (box (m job)) marks
   pub marks_length : length marks' ≡ length marks
   -- "The path room holds T station numbers and is otherwise unchanged; if Def is yes all of it is unchanged"
-  pub path_stations : r.def ≡ false → (i : ℕ) → i < total (m job) → 0 < at path' i
+  pub path_stations : v.def ≡ false → (i : ℕ) → i < total (m job) → 0 < at path' i
   pub path_rest : drop (total (m job)) path' ≡ drop (total (m job)) path
   pub path_length : length path' ≡ length path
-  pub path_kept : r.def ≡ true → path' ≡ path
+  pub path_kept : v.def ≡ true → path' ≡ path
 
 -- the promise: a refusal and nothing changed, or the verdicts
-pub data Judged (job marks path : List ℕ) : Reply → List ℕ → List ℕ → Type 0 where
-  refused : {x : Refusal} → checked_job job (length marks) (length path) ≡ Checked.Refused x
-      → Judged job marks path (refused_by x) marks path
-  accepted : {r : Reply} {marks' path' : List ℕ} → checked_job job (length marks) (length path) ≡ Checked.Accepted → r.answer ≡ Checked.Accepted
-      → Verdicts job marks path r marks' path' → Judged job marks path r marks' path'
+pub data Judged (job marks path : List ℕ) : Result marked.Verdicts Refusal → List ℕ → List ℕ → Type 0 where
+  refused : {x : Refusal} → checked_job job (length marks) (length path) ≡ Err x → Judged job marks path (Err x) marks path
+  accepted : {v : marked.Verdicts} {marks' path' : List ℕ} → checked_job job (length marks) (length path) ≡ Ok tt
+      → Verdicts job marks path v marks' path' → Judged job marks path (Ok v) marks' path'

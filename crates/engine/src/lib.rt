@@ -1,10 +1,15 @@
 // The reply to a job: both verdicts with their evidence.
 #![tactic(auto)]
 
+ghost use Rattle.std.specs.Prelude.{◌≡◌, replicate, MatchResult, Err};
+ghost use Rattle.recording.specs.Form.{lead8, width8};
+ghost use Rattle.recording.specs.Check.{checked_of};
 ghost use Rattle.engine.specs.Job.{Judged};
+ghost use Rattle.engine.specs.Computed.{Laid};
 
-use cut::Cut;
-use recording::{Checked, Decoded, Refusal};
+use marks::Verdicts;
+use recording::DecodeError;
+use refusal::Refusal;
 
 mod needs;
 mod rooms;
@@ -12,33 +17,26 @@ mod tables;
 mod verdict;
 mod weights;
 
-// The reply: accepted, with Poss and its witness and Def; or the refusal, and nothing beside it.
-#[derive(Clone, Copy)]
-pub struct Reply {
-    pub answer: Checked,
-    pub poss: bool,
-    pub witness: Cut,
-    pub def: bool,
-}
-
 // Both verdicts of a job, its marks and, where Def is no, its path; or the refusal, and nothing changed.
-pub fn judge(job: &[u8], marks: &mut [u8], path: &mut [u8]) -> Reply
+pub fn judge(job: &[u8], marks: &mut [u8], path: &mut [u8]) -> Result<Verdicts, Refusal>
     ensures { Judged job.now marks.old path.old result marks.new path.new }
 {
-    let read = condition::read(job);
-    if read.refused != 0 {
-        return verdict::refused(Refusal {
-            number: read.refused,
-            station: 0,
-            event: 0,
-        });
-    }
+    let condition = condition::read(job)?;
     let s = &job[38..];
     let mut stamps = [0u16; 32704];
     let mut levels = [0u16; 4088];
-    let d = recording::decode(s, &mut stamps, &mut levels);
-    if let Decoded::Refused(x) = d {
-        return verdict::refused(x);
+    decode(s, &mut stamps, &mut levels)?;
+    verdict::verdicts(condition, s, &stamps, &levels, marks, path)
+}
+
+// The tables of a recording, in rooms that suffice for any.
+fn decode(s: &[u8], stamps: &mut [u16], levels: &mut [u16]) -> Result<(), Refusal>
+    requires { (stamps.old ≡ replicate 32704 0) × (levels.old ≡ replicate 4088 0) }
+    ensures { MatchResult result (λ _. Laid s.now stamps.new levels.new) (λ x. checked_of lead8 width8 s.now ≡ Err x) }
+{
+    match recording::decode(s, stamps, levels) {
+        Ok(()) => Ok(()),
+        Err(DecodeError::Refused(x)) => Err(x),
+        Err(DecodeError::Short) => unreachable!(),
     }
-    verdict::verdicts(read.condition, s, &stamps, &levels, marks, path)
 }

@@ -4,6 +4,7 @@ ghost use Rattle.cuts.specs.Below.{tab};
 ghost use Rattle.cuts.specs.Cut.{at};
 ghost use Rattle.engine.specs.Prepare.{Short, rows_to, station_need};
 
+use crate::tables::Station;
 use cut::Cut;
 
 // The rows before those of each station.
@@ -14,44 +15,30 @@ pub fn bases(full: Cut) -> [usize; 8]
     let counts = full.counts;
     let mut b = [0usize; 8];
     let mut rows: usize = 0;
-    let mut p: usize = 0;
-    while p < 8 {
+    for p in 0..8 {
         b[p] = rows;
         rows += counts[p] as usize + 1;
-        p += 1;
     }
     b
 }
 
-// The needs of the events of the station at place p, whose records begin at `first`, from `at` on.
-pub fn lay_station_needs(
-    stamps: &[u16],
-    p: usize,
-    first: usize,
-    m: usize,
-    at: usize,
-    needs: &mut [u16],
-)
-    requires { (first ≤ 4096) × (m ≤ 511) × (at + 8 * (m + 1) ≤ length needs.old) × (length needs.old ≡ 32768) }
-    ensures { needs.new ≡ take at needs.old ++ tab (8 * (m + 1)) (station_need stamps.now p first) ++ drop (at + 8 * (m + 1)) needs.old }
+// The needs of a station's events, in its rows.
+pub fn lay_station_needs(stamps: &[u16], station: Station, needs: &mut [u16])
+    requires { length needs.old ≡ 32768 }
+    ensures { needs.new ≡ take (8 * station.row) needs.old ++ tab (8 * (station.events + 1)) (station_need stamps.now station.place station.first) ++ drop (8 * station.row + 8 * (station.events + 1)) needs.old }
 {
-    let end = 8 * (m + 1);
-    let mut j: usize = 0;
-    while j < end {
-        needs[at + j] = station_need(stamps, p, first, j);
-        j += 1;
+    let at = 8 * station.row;
+    for j in 0..8 * (station.events + 1) {
+        needs[at + j] = station_need(stamps, station.place, station.first, j);
     }
 }
 
-// Number j of those needs.
-pub fn station_need(stamps: &[u16], p: usize, first: usize, j: usize) -> u16
+// Number j of the needs of the station at place p, whose records begin at `first`.
+fn station_need(stamps: &[u16], p: usize, first: usize, j: usize) -> u16
     requires { (first ≤ 4096) × (j ≤ 4096) }
     ensures { result ≡ station_need stamps.now p first j }
 {
-    if j < 8 {
-        return 0;
-    }
-    if j % 8 == p {
+    if j < 8 || j % 8 == p {
         return 0;
     }
     number(stamps, 8 * first + (j - 8))
@@ -61,8 +48,5 @@ pub fn station_need(stamps: &[u16], p: usize, first: usize, j: usize) -> u16
 pub fn number(table: &[u16], i: usize) -> u16
     ensures { result ≡ at table.now i }
 {
-    if i < table.len() {
-        return table[i];
-    }
-    0
+    table.get(i).copied().unwrap_or(0)
 }

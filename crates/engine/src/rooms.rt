@@ -6,38 +6,36 @@ ghost use Rattle.engine.specs.Job.{none_above, room_tests};
 
 use condition::Condition;
 use cut::Cut;
+use refusal::Reason;
 
-// The number of the first test that fails, 0 if none does.
-pub fn fault(c: Condition, full: Cut, marks: usize, path: usize) -> u8
+// The first test that fails, if one does.
+pub fn check(c: Condition, full: Cut, marks: usize, path: usize) -> Result<(), Reason>
     ensures { result ≡ fault_of (room_tests c full.n (box_of full) (events_of full) marks path) }
 {
     if !none_above(c, full.n) {
-        return 9;
+        return Err(Reason::Asked);
     }
     let b = cut::box_of(full);
     if 65536 < b {
-        return 10;
+        return Err(Reason::BoxSize);
     }
     if marks < b {
-        return 11;
+        return Err(Reason::MarksRoom);
     }
     if path < cut::events(full) {
-        return 12;
+        return Err(Reason::PathRoom);
     }
-    0
+    Ok(())
 }
 
 // Whether no station above n is asked.
 fn none_above(c: Condition, n: u8) -> bool
     ensures { result ≡ none_above c n }
 {
-    let mut p = n as usize;
-    while p < 8 {
-        let w = c.windows[p];
-        if w.asked {
+    for p in n as usize..8 {
+        if c.windows[p].asked {
             return false;
         }
-        p += 1;
     }
     true
 }

@@ -1,11 +1,23 @@
 // The two tables that a box is settled from, laid station by station.
-ghost use Rattle.std.specs.Prelude.{◌≡◌, ◌++◌, ◌*◌, length, drop};
+ghost use Rattle.std.specs.Prelude.{◌≡◌, ◌++◌, ◌+◌, ◌*◌, ◌≤◌, length, drop};
 ghost use Rattle.cuts.specs.Below.{tab};
 ghost use Rattle.engine.specs.Prepare.{Short, rows_to, needs_to, weights_to};
 
 use crate::{needs, weights};
 use condition::Condition;
 use cut::Cut;
+
+// A station's part of the tables: its place, where its records and its rows begin, and how many events it has.
+#[derive(Clone, Copy)]
+pub struct Station {
+    pub place: usize,
+    pub first: usize,
+    pub row: usize,
+    pub events: usize,
+    ghost few: { events ≤ 511 },
+    ghost records: { first ≤ row },
+    ghost rows: { row + (events + 1) ≤ 4096 },
+}
 
 // What all stations' events need, and what the stations add after each of them, into the fronts of the rooms.
 pub fn lay(
@@ -23,13 +35,15 @@ pub fn lay(
 {
     let n = full.n as usize;
     let counts = full.counts;
-    let mut p: usize = 0;
-    while p < n {
-        let m = counts[p] as usize;
-        let b = bases[p];
-        let first = b - p;
-        needs::lay_station_needs(stamps, p, first, m, 8 * b, needed);
-        weights::lay_station_weights(c, starts[p], levels, p, first, m, b, added);
-        p += 1;
+    for p in 0..n {
+        let row = bases[p];
+        let station = Station {
+            place: p,
+            first: row - p,
+            row,
+            events: counts[p] as usize,
+        };
+        needs::lay_station_needs(stamps, station, needed);
+        weights::lay_station_weights(c, starts[p], levels, station, added);
     }
 }

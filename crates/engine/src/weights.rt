@@ -4,43 +4,33 @@ ghost use Rattle.cuts.specs.Below.{tab};
 ghost use Rattle.engine.specs.Prepare.{station_weight};
 
 use crate::needs;
+use crate::tables::Station;
 use condition::Condition;
 
-// What the station at place p adds after each of its events, from `at` on.
+// What a station, with its start level, adds after each of its events, in its rows.
 pub fn lay_station_weights(
     c: Condition,
     start: u16,
     levels: &[u16],
-    p: usize,
-    first: usize,
-    m: usize,
-    at: usize,
+    station: Station,
     weights: &mut [u16],
 )
-    requires { (first ≤ 4096) × (m ≤ 511) × (at + (m + 1) ≤ length weights.old) × (length weights.old ≡ 4096) }
-    ensures { weights.new ≡ take at weights.old ++ tab (m + 1) (station_weight c start levels.now p first) ++ drop (at + (m + 1)) weights.old }
+    requires { length weights.old ≡ 4096 }
+    ensures { weights.new ≡ take station.row weights.old ++ tab (station.events + 1) (station_weight c start levels.now station.place station.first) ++ drop (station.row + (station.events + 1)) weights.old }
 {
-    let mut e: usize = 0;
-    while e <= m {
-        weights[at + e] = station_weight(c, start, levels, p, first, e);
-        e += 1;
+    for e in 0..station.events + 1 {
+        weights[station.row + e] = station_weight(c, start, levels, station, e);
     }
 }
 
-// What the station at place p adds after its event e.
-pub fn station_weight(
-    c: Condition,
-    start: u16,
-    levels: &[u16],
-    p: usize,
-    first: usize,
-    e: usize,
-) -> u16
-    requires { (first ≤ 4096) × (e ≤ 511) }
-    ensures { result ≡ station_weight c start levels.now p first e }
+// What it adds after its event e.
+fn station_weight(c: Condition, start: u16, levels: &[u16], station: Station, e: usize) -> u16
+    requires { e ≤ 511 }
+    ensures { result ≡ station_weight c start levels.now station.place station.first e }
 {
-    if e < 1 {
-        return condition::weigh(c, p, start);
-    }
-    condition::weigh(c, p, needs::number(levels, first + (e - 1)))
+    let level = match e {
+        0 => start,
+        _ => needs::number(levels, station.first + (e - 1)),
+    };
+    condition::weigh(c, station.place, level)
 }

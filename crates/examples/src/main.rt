@@ -2,12 +2,12 @@
 // of the two its length in two bytes, high first: prints the line, then the text of the reply to the job.
 #![tactic(auto)]
 
+ghost use Rattle.std.specs.Prelude.{◌≤◌, IfOk};
+
 use std::io::{self, Read, Write};
 
-// The longest part that two bytes can announce; a room that has place for any reply's text.
+// The longest part that two bytes can announce.
 const PART: usize = 65535;
-
-const TEXT: usize = 4140;
 
 // More than there are examples: a proved loop has to end.
 const MOST: u8 = 100;
@@ -30,42 +30,24 @@ fn run_next<R: Read, W: Write>(input: &mut R, output: &mut W) -> io::Result<bool
     if n == 0 {
         return Ok(false);
     }
-    print(output, &part, n)?;
+    output.write_all(&part[..n])?;
     let k = read_part(input, &mut part)?;
-    print_reply(output, &part, k)?;
+    print_reply(output, &part[..k])?;
     Ok(true)
 }
 
 // Reads a part into the front of the room; how many bytes there were.
-fn read_part<R: Read>(input: &mut R, room: &mut [u8]) -> io::Result<usize> {
+fn read_part<R: Read>(input: &mut R, room: &mut [u8; PART]) -> io::Result<usize>
+    ensures { IfOk result (λ n. n ≤ 65535) }
+{
     let mut head = [0u8; 2];
     reading::read_full(input, &mut head)?;
-    let n = length_of(head[0], head[1]);
-    if room.len() < n {
-        return Ok(0);
-    }
-    reading::read_full(input, &mut room[0..n])
+    reading::read_full(input, &mut room[..reading::length_of(head)])
 }
 
-// The length that two bytes say, high first.
-fn length_of(high: u8, low: u8) -> usize {
-    high as usize * 256 + low as usize
-}
-
-// The text of the reply to the first k bytes.
-fn print_reply<W: Write>(output: &mut W, job: &[u8], k: usize) -> io::Result<()> {
-    if job.len() < k {
-        return Ok(());
-    }
-    let mut room = [0u8; TEXT];
-    let n = reply::answer(&job[0..k], &mut room);
-    print(output, &room, n)
-}
-
-// The first n bytes.
-fn print<W: Write>(output: &mut W, text: &[u8], n: usize) -> io::Result<()> {
-    if n <= text.len() {
-        output.write_all(&text[0..n])?;
-    }
-    Ok(())
+// The text of the reply to a job.
+fn print_reply<W: Write>(output: &mut W, job: &[u8]) -> io::Result<()> {
+    let mut room = [0u8; fits::LONGEST];
+    let n = fits::printed(job, &mut room);
+    output.write_all(&room[..n])
 }

@@ -2,7 +2,6 @@
 use mathlib.Core.Path.{◌≡◌, sym, ap, ◌∙◌}
 use mathlib.Core.List.{List}
 use Prim.Native.Nat.{ℕ}
-use Rattle.engine.specs.declared.Reply.{Reply}
 use Rattle.engine.proofs.JudgeRight.{judged_unique}
 use Rattle.exports.specs.Exports.{reply_number, JudgeExported}
 
@@ -10,4 +9,4 @@ pub judge_number_unique : (job marks path : List ℕ) (r r' : ℕ) (a b a' b' : 
     → (r ≡ r') × (a ≡ a') × (b ≡ b')
 judge_number_unique job marks path r r' a b a' b' x y =
     let (e, f, g) = judged_unique job marks path _ _ _ _ _ _ x.judged y.judged in
-    (x.number ∙ ap (λ (k : Reply). reply_number k.answer k.poss k.def) e ∙ sym y.number, f, g)
+    (x.number ∙ ap reply_number e ∙ sym y.number, f, g)

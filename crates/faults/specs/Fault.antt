@@ -1,19 +1,21 @@
 -- The fault of one record, worked out of flat tables. Nothing here has to be believed: `TablesRight` of `recording` proves that it is the first of the
 -- record's tests that fails. In order: the origin's kinds, and what they break; stamps in the table; a local step; a receipt; any record.
-use Rattle.std.specs.Prelude.{Bool, ◌&&◌, ◌||◌, cond, List, ℕ, zero, suc, ◌+◌, ◌-◌, ◌*◌, ◌/◌, max, leb, ltb, eqb, length}
+use Rattle.std.specs.Prelude.{Bool, ◌&&◌, ◌||◌, cond, List, ℕ, zero, suc, ◌+◌, ◌-◌, ◌*◌, ◌/◌, max, leb, ltb, eqb, length, Result, Ok, Err}
 use Rattle.cuts.specs.Below.{every, own}
 use Rattle.cuts.specs.Cut.{at}
+use Rattle.refusal.specs.Refusal.{Tested}
+use Rattle.refusal.specs.declared.Reason.{Reason}
 use Rattle.faults.specs.declared.Source.{Source}
 
 -- "Origin 0 is a local step, 1 to 8 name a station, 9 to 15 are refused"
-unfoldable pub source_of : ℕ → Source
-source_of o = cond (eqb o 0) Source.Local (cond (leb o 8) (Source.From o) Source.Unknown)
+unfoldable pub source_of : ℕ → Result Source Reason
+source_of o = cond (eqb o 0) (Ok Source.Local) (cond (leb o 8) (Ok (Source.From o)) (Err Reason.Origin))
 
--- what the kind of the origin or the sender's number k breaks, in a record of the station at place p: 5 or 6, or 0
-unfoldable pub sender_fault : ℕ → List ℕ → ℕ → Source → ℕ → ℕ
-sender_fault n m p Source.Local k = cond (eqb k 0) 0 6
-sender_fault n m p (Source.From o) k = cond (ltb n o || eqb o (p + 1)) 5 (cond (leb 1 k && leb k (at m (o - 1))) 0 6)
-sender_fault n m p Source.Unknown k = 5
+-- what the kind of the origin or the sender's number k breaks, in a record of the station at place p, if either breaks anything
+unfoldable pub sender_fault : ℕ → List ℕ → ℕ → Result Source Reason → ℕ → Tested
+sender_fault n m p (Ok Source.Local) k = cond (eqb k 0) (Ok tt) (Err Reason.Number)
+sender_fault n m p (Ok (Source.From o)) k = cond (ltb n o || eqb o (p + 1)) (Err Reason.Origin) (cond (leb 1 k && leb k (at m (o - 1))) (Ok tt) (Err Reason.Number))
+sender_fault n m p (Err r) k = Err r
 
 -- the place of the station that the origin o names, the record's own place p for a local step
 unfoldable pub sender_at : ℕ → ℕ → ℕ
@@ -32,24 +34,24 @@ place_right rows p first e sender k q = eqb (place_at rows first (suc e) q) (max
 unfoldable pub has : List ℕ → ℕ → ℕ → Bool
 has rows first e = leb e (length rows / 8 - first)
 
-unfoldable pub stamp_fault : ℕ → List ℕ → ℕ → ℕ → ℕ → ℕ → ℕ → ℕ
-stamp_fault n rows p first e sender k = cond (has rows first (suc e) && (has rows sender k && every n (place_right rows p first e sender k))) 0 7
+unfoldable pub stamp_fault : ℕ → List ℕ → ℕ → ℕ → ℕ → ℕ → ℕ → Tested
+stamp_fault n rows p first e sender k = cond (has rows first (suc e) && (has rows sender k && every n (place_right rows p first e sender k))) (Ok tt) (Err Reason.Stamp)
 
-unfoldable pub local_fault : ℕ → List ℕ → ℕ → ℕ → ℕ → ℕ → ℕ
-local_fault n rows p first e k = cond (eqb k 0) (stamp_fault n rows p first e first 0) 6
+unfoldable pub local_fault : ℕ → List ℕ → ℕ → ℕ → ℕ → ℕ → Tested
+local_fault n rows p first e k = cond (eqb k 0) (stamp_fault n rows p first e first 0) (Err Reason.Number)
 
-unfoldable pub receipt_fault : ℕ → List ℕ → List ℕ → List ℕ → ℕ → ℕ → ℕ → ℕ → ℕ
+unfoldable pub receipt_fault : ℕ → List ℕ → List ℕ → List ℕ → ℕ → ℕ → ℕ → ℕ → Tested
 receipt_fault n m firsts rows p e station k =
-    cond (ltb n station || eqb station (p + 1)) 5
-    (cond (leb 1 k && leb k (at m (station - 1))) (stamp_fault n rows p (at firsts p) e (at firsts (station - 1)) k) 6)
+    cond (ltb n station || eqb station (p + 1)) (Err Reason.Origin)
+    (cond (leb 1 k && leb k (at m (station - 1))) (stamp_fault n rows p (at firsts p) e (at firsts (station - 1)) k) (Err Reason.Number))
 
 -- the fault of event e + 1 of the station at place p, by the kind of its origin and the sender's number k
 module _ (n : ℕ) (m firsts rows : List ℕ) where
-  unfoldable pub source_fault : Source → ℕ → ℕ → ℕ → ℕ
-  source_fault Source.Local k p e = local_fault n rows p (at firsts p) e k
-  source_fault (Source.From o) k p e = receipt_fault n m firsts rows p e o k
-  source_fault Source.Unknown k p e = 5
+  unfoldable pub source_fault : Result Source Reason → ℕ → ℕ → ℕ → Tested
+  source_fault (Ok Source.Local) k p e = local_fault n rows p (at firsts p) e k
+  source_fault (Ok (Source.From o)) k p e = receipt_fault n m firsts rows p e o k
+  source_fault (Err r) k p e = Err r
 
-  -- by its origin o; 7 where p is the place of none of at most eight stations
-  unfoldable pub table_fault : ℕ → ℕ → ℕ → ℕ → ℕ
-  table_fault o k p e = cond (leb n 8 && ltb p n) (source_fault (source_of o) k p e) 7
+  -- by its origin o; a fault of the stamp where p is the place of none of at most eight stations
+  unfoldable pub table_fault : ℕ → ℕ → ℕ → ℕ → Tested
+  table_fault o k p e = cond (leb n 8 && ltb p n) (source_fault (source_of o) k p e) (Err Reason.Stamp)

@@ -1,7 +1,9 @@
 -- The text of the reply to any job has at most 4,140 bytes: a witness has at most eight counts of at most 255, a path at most 2,040 stations of one digit.
 -- In order: bounds of all numbers of a list; a walk and a witness; an accepted recording; a refusal; the text. Assumes nothing.
-use mathlib.Core.Path.{◌≡◌, refl, ap}
-use mathlib.Core.Bool.{Bool, true, false, not, cond}
+use mathlib.Core.Path.{◌≡◌, refl, ap, ◌∙◌}
+use Rattle.std.specs.Prelude.{Ok, Err, Some, None, unwrap_or}
+use Rattle.std.specs.Prelude as rust
+use mathlib.Core.Bool.{Bool, true, false, cond}
 use mathlib.Core.Option.{Option, none, some}
 use mathlib.Core.List.{List, [], ◌∷◌, ◌++◌, map, reverse, reverse_aux}
 use Prim.Native.Nat.{ℕ, zero, suc, ◌+◌, ◌*◌, ◌/◌, ◌%◌, ◌≤◌, ◌<◌}
@@ -22,7 +24,7 @@ use Rattle.cuts.proofs.CutLaws.{within_length, within_at}
 use Rattle.cuts.proofs.RankLaws.{unrank_within}
 use Rattle.recording.specs.Form.{m_at, n_at, lead8, width8, station_bit}
 use Rattle.recording.specs.Check.{checked_of}
-use Rattle.recording.specs.declared.Checked.{Checked}
+use Rattle.refusal.specs.Refusal.{number_of, Checked}
 use Rattle.recording.proofs.FormLaws.{counts_read, stations_read}
 use Rattle.recording.proofs.AcceptedRight.{accepted_accepts}
 use Rattle.text.specs.Text.{decimal_to, numbers, refused_text, verdict_text}
@@ -30,7 +32,7 @@ use Rattle.text.proofs.LineLaws.{length_refused}
 use Rattle.text.proofs.TextRight.{text_bound}
 use Rattle.engine.specs.Job.{part_of, m, L, checked_job}
 use Rattle.reply.specs.Answer.{marks_room, path_room, poss_line, def_line, text_by, text_of}
-use Rattle.engine.specs.Computed.{given, evidence}
+use Rattle.engine.specs.Computed.{evidence}
 use Rattle.engine.proofs.JudgeRight.{recording_accepted}
 
 -- no number of a list is above b
@@ -87,7 +89,7 @@ evidence_length k true l h = h refl
 evidence_length k false l h = omega arith
 
 -- of an accepted recording
-module _ (job : List ℕ) (h : checked_of lead8 width8 (part_of job) ≡ Checked.Accepted) where
+module _ (job : List ℕ) (h : checked_of lead8 width8 (part_of job) ≡ Ok tt) where
   stations_most : length (m job) ≤ 8
   stations_most = omega (arith, stations_read lead8 width8 (part_of job), (accepted_accepts lead8 width8 (part_of job) h).n_most)
 
@@ -135,9 +137,29 @@ module _ (job : List ℕ) (h : checked_of lead8 width8 (part_of job) ≡ Checked
       step : Most 8 back_walk
       step i = le_trans (most_walk (L job) (looked (L job)) (total (m job)) (m job) i) stations_most
 
+-- the station numbers of a path
+stations_of : Option (List ℕ) → Option (List ℕ)
+stations_of none = none
+stations_of (some path) = some (map suc path)
+
+stations_evidence : (o : Option (List ℕ)) → evidence (stations_of o) ≡ map suc (evidence o)
+unfolding stations_of
+stations_evidence none = refl
+stations_evidence (some path) = refl
+
+-- evidence as the text takes it
+told : Option (List ℕ) → rust.Option (List ℕ)
+told none = None
+told (some l) = Some l
+
+told_evidence : (o : Option (List ℕ)) → unwrap_or (told o) [] ≡ evidence o
+unfolding told
+told_evidence none = refl
+told_evidence (some l) = refl
+
 -- the two lines of verdicts as one text
-lines_are : (poss def : Option (List ℕ)) → poss_line poss ++ def_line def ≡ verdict_text (given poss) (evidence poss) (not (given def)) (map suc (evidence def))
-unfolding verdict_text
+lines_are : (poss def : Option (List ℕ)) → poss_line poss ++ def_line def ≡ verdict_text (told poss) (told (stations_of def))
+unfolding verdict_text told stations_of
 lines_are none none = refl
 lines_are none (some path) = refl
 lines_are (some c) none = refl
@@ -163,9 +185,12 @@ unfolding text_of
 text_fits job = go (checked_job job marks_room path_room) refl
   where
     go : (v : Checked) → checked_job job marks_room path_room ≡ v → length (text_by v (poss_of (L job)) (def_of (L job))) ≤ 4140
-    go (Checked.Refused x) e = le_trans (refused_length x.number x.station x.event) (omega arith)
-    go Checked.Accepted e =
+    go (Err x) e = le_trans (refused_length (number_of x.reason) x.station x.event) (omega arith)
+    go (Ok u) e =
         let h = recording_accepted job marks_room path_room e in
-        let path = map suc (evidence (def_of (L job))) in
-        let bound = text_bound (given (poss_of (L job))) (evidence (poss_of (L job))) (not (given (def_of (L job)))) path (witness_length job h) (λ i. omega (arith, witness_most job h i)) (λ i. omega (arith, most_map_suc 8 (evidence (def_of (L job))) (path_most job h) i)) in
-        rw (lines_are (poss_of (L job)) (def_of (L job))) (omega (arith, bound, length-map (evidence (def_of (L job))) suc, path_length job h))
+        let poss = poss_of (L job) in
+        let def = def_of (L job) in
+        let w = told_evidence poss in
+        let p = told_evidence (stations_of def) ∙ stations_evidence def in
+        let bound = text_bound (told poss) (told (stations_of def)) (rw w (witness_length job h)) (λ i. rw w (omega (arith, witness_most job h i))) (λ i. rw p (omega (arith, most_map_suc 8 (evidence def) (path_most job h) i))) in
+        rw (lines_are poss def) (omega (arith, bound, ap length p, length-map (evidence def) suc, path_length job h))

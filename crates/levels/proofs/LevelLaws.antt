@@ -1,9 +1,16 @@
 -- Laws of levels. In order: differences of two numbers compared, equated and added; numbers of k bits in two's complement, there and back; what is a
--- level, and its 12 bits; excess numbers; that the entries have one reply each. A number v is within k bits where mag v < 2 ^ (k - 1): mag x is x, and
--- mag (−1 − x) is x. Assumes nothing.
+-- level, and its 12 bits; excess numbers; what the code computes at 16 bits; that the entries have one reply each. A number v is within k bits where
+-- mag v < 2 ^ (k - 1): mag x is x, and mag (−1 − x) is x. Assumes nothing.
 use mathlib.Core.Path.{◌≡◌, refl, sym, ap, ◌∙◌}
 use mathlib.Core.Bool.{Bool, true, false, ◌&&◌, cond}
 use Prim.Native.Nat.{ℕ, zero, suc, ◌+◌, ◌-◌, ◌%◌, ◌^◌, ◌≤◌, ◌<◌}
+use Rattle.std.proofs.Common.{Option, Some, None, ◌-ℤ◌}
+use Rattle.std.proofs.lemmas.Int.{ints}
+use Rattle.std.specs.Int.{int_rem_euclid}
+use mir.Syntax.{w16}
+use mir.Val.{to_z, of_z, SFits}
+use mir.Facts.{to_z-of_z}
+use lib.IntN.{nat_abs}
 use native.Mathlib.Nat.{lt_of_not-le, two-pow-succ}
 use native.Mathlib.Decide.{dec_lt, dec_le}
 use native.Mathlib.Omega.{arith}
@@ -13,7 +20,6 @@ use lib.Signed.{le_z, mag}
 use borrow.Author.Tests.{lt-ltb, le-ltb, le-leb, lt-leb, leb-true}
 use Rattle.cuts.proofs.ReplyLaws.{replies_equal}
 use Rattle.levels.specs.Level.{twos, bits_of, is_level, field_of, level_of, excess_of}
-use Rattle.levels.specs.declared.Fitted.{Fitted}
 
 -- two tests that say the same
 pub leb_same : (a b c d : ℕ) → (a ≤ b → c ≤ d) → (c ≤ d → a ≤ b) → leb a b ≡ leb c d
@@ -119,6 +125,15 @@ is_level-sub a b =
     let high = leb_same (a + 0) (2047 + b) a (b + 2047) (λ e. omega arith) (λ e. omega arith) in
     rw (sub_le 0 2048 a b, sub_le a b 2047 0, low, high) refl
 
+-- numbers 32,768 apart agree in their lowest 12 bits
+pub bits_of-sub : (x : ℕ) → 30720 ≤ x → x ≤ 34815 → bits_of 12 (sub_ℕ x 32768) ≡ x % 4096
+unfolding bits_of
+bits_of-sub x l h = go (dec_lt x 32768)
+  where
+    go : Dec (x < 32768) → bits_of 12 (sub_ℕ x 32768) ≡ x % 4096
+    go (yes k) = rw (sub_neg x 32768 k) (omega arith)
+    go (no k) = rw (sub_pos x 32768 (omega arith)) (omega arith)
+
 pub is_level-mag : (v : ℤ) → is_level v ≡ leb (mag v) 2047
 unfolding is_level
 is_level-mag (pos x) = refl
@@ -140,11 +155,11 @@ level_field v h = twos-bits_of 12 v (omega arith) (level_mag v h)
 pub level_bits_lem : (v : ℤ) → is_level v ≡ true → bits_of 12 v < 4096
 level_bits_lem v h = bits_of-lt 12 v (omega arith) (level_mag v h)
 
-pub field_of-some : (v : ℤ) → is_level v ≡ true → field_of v ≡ Fitted.Field (bits_of 12 v)
+pub field_of-some : (v : ℤ) → is_level v ≡ true → field_of v ≡ Some (bits_of 12 v)
 unfolding field_of
 field_of-some v h = rw h refl
 
-pub field_of-none : (v : ℤ) → is_level v ≡ false → field_of v ≡ Fitted.Out
+pub field_of-none : (v : ℤ) → is_level v ≡ false → field_of v ≡ None
 unfolding field_of
 field_of-none v h = rw h refl
 
@@ -169,11 +184,33 @@ pub level_of-injective : (x y : ℕ) → level_of x ≡ level_of y → x ≡ y
 unfolding level_of
 level_of-injective x y e = sub_injective x y 2048 e
 
+-- 2,048 taken from an excess number, as the machine computes it
+pub excess_lowered : (f x : ℕ) → x ≡ excess_of f → to_z w16 (of_z w16 (to_z w16 x -ℤ pos 2048)) ≡ twos 12 (f % 4096)
+unfolding level_of
+excess_lowered f x e =
+    let l : x < 4096 = omega (arith, excess_lt f) in
+    let fits : SFits w16 (to_z w16 x -ℤ pos 2048) = omega (arith, ints) in
+    let z : to_z w16 x ≡ pos x = omega (arith, ints) in
+    to_z-of_z fits ∙ ap (λ y. y -ℤ pos 2048) z ∙ ap level_of (e ∙ sym (excess_mod f)) ∙ level_of-excess (f % 4096) (omega arith)
+
+-- the remainder by 4,096 is a level's 12 bits in two's complement
+level_remainder : (v : ℤ) → mag v ≤ 2047 → int_rem_euclid v (pos 4096) ≡ pos (bits_of 12 v)
+unfolding bits_of
+level_remainder (pos x) h = ap pos (omega arith)
+level_remainder (negsuc x) h = ap pos (omega arith)
+
+-- the field of a level from the remainder that the machine computes
+pub field_computed : (v r : ℤ) → SFits w16 v → SFits w16 r → r ≡ int_rem_euclid (to_z w16 (of_z w16 v)) (pos 4096) → is_level v ≡ true
+    → Some (nat_abs (to_z w16 (of_z w16 r))) ≡ field_of v
+field_computed v r f g e t =
+    let s : int_rem_euclid v (pos 4096) ≡ pos (bits_of 12 v) = level_remainder v (omega (arith, level_mag v t)) in
+    ap (λ y. Some (nat_abs y)) (to_z-of_z g ∙ e ∙ ap (λ y. int_rem_euclid y (pos 4096)) (to_z-of_z f) ∙ s) ∙ sym (field_of-some v t)
+
 pub excess_unique : (f : ℕ) (r r' : ℕ) → r ≡ excess_of f → r' ≡ excess_of f → r ≡ r'
 excess_unique f r r' = replies_equal
 
 pub signed_unique : (f : ℕ) (r r' : ℤ) → r ≡ twos 12 (f % 4096) → r' ≡ twos 12 (f % 4096) → r ≡ r'
 signed_unique f r r' = replies_equal
 
-pub field_unique : (v : ℤ) (r r' : Fitted) → r ≡ field_of v → r' ≡ field_of v → r ≡ r'
+pub field_unique : (v : ℤ) (r r' : Option ℕ) → r ≡ field_of v → r' ≡ field_of v → r ≡ r'
 field_unique v r r' = replies_equal

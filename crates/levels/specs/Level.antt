@@ -1,9 +1,8 @@
 -- Levels: document 01, "a signed whole number from −2,048 to 2,047", and "two's complement". In ℤ; tables hold the excess number, level + 2,048.
 -- In order: numbers of k bits with a sign, and back; what is a level; a level as 12 bits; excess numbers.
-use Rattle.std.specs.Prelude.{Bool, ◌&&◌, cond, ℕ, suc, ◌+◌, ◌-◌, ◌%◌, ◌^◌, ltb, ℤ, pos, negsuc}
+use Rattle.std.specs.Prelude.{Bool, ◌&&◌, cond, ℕ, suc, ◌+◌, ◌-◌, ◌%◌, ◌^◌, ltb, ℤ, pos, negsuc, Option, Some, None}
 use Rattle.std.proofs.Math.IntN.{sub_ℕ}
 use Rattle.std.specs.Int.Signed.{le_z}
-use Rattle.levels.specs.declared.Fitted.{Fitted}
 
 -- the number that k bits stand for in two's complement
 unfoldable pub twos : ℕ → ℕ → ℤ
@@ -18,9 +17,9 @@ bits_of k (negsuc x) = 2 ^ k - suc x
 unfoldable pub is_level : ℤ → Bool
 is_level v = le_z (negsuc 2047) v && le_z v (pos 2047)
 
--- a level as its 12 bits, or that it is out of range
-unfoldable pub field_of : ℤ → Fitted
-field_of v = cond (is_level v) (Fitted.Field (bits_of 12 v)) Fitted.Out
+-- a level as its 12 bits, nothing of a number that is none
+unfoldable pub field_of : ℤ → Option ℕ
+field_of v = cond (is_level v) (Some (bits_of 12 v)) None
 
 -- the level that an excess number stands for
 unfoldable pub level_of : ℕ → ℤ

@@ -1,154 +1,85 @@
 // The lookup of one record of a packed recording, after the recording's checks.
 #![tactic(auto)]
 
-ghost use Rattle.std.specs.Prelude.{◌≡◌, ◌&&◌, ◌+◌, ◌-◌, ◌≤◌, ◌<◌, leb};
-ghost use Rattle.cuts.specs.Below.{sum_to, tab};
+ghost use Rattle.std.specs.Prelude.{◌≡◌, ◌&&◌, ◌+◌, ◌-◌, ◌*◌, ◌≤◌, ◌<◌, leb, sum, take};
+ghost use Rattle.cuts.specs.Below.{tab};
 ghost use Rattle.cuts.specs.Cut.{at};
-ghost use Rattle.recording.specs.Form.{station_bit, record_bit, n_at, m_at, recording_of, lead8, width8};
-ghost use Rattle.recording.specs.Decode.{events_at};
-ghost use Rattle.lookup.specs.Lookup.{lookup_of, found_of, not_found, counted};
+ghost use Rattle.recording.specs.Form.{m_at, recording_of, lead8, width8};
+ghost use Rattle.recording.specs.Decode.{full_of};
+ghost use Rattle.lookup.specs.Lookup.{lookup_of, found_of, counted};
 
-use recording::{Checked, Refusal};
+use cut::Cut;
+use recording::Form;
+use refusal::{Reason, Refusal};
 
-// One record, or the refusal, and zeros beside it.
-#[derive(Clone, Copy)]
-pub struct Found {
-    pub answer: Checked,
+// One record: the places of its stamp beyond n are 0. An array of eight, of which n are used, stays: fixed memory, no heap.
+#[derive(Clone, Copy, Debug, PartialEq, Eq)]
+pub struct Record {
     pub origin: u8,
     pub number: u16,
     pub level: i16,
     pub stamp: [u16; 8],
 }
 
-// The bits that lead up to the stations' parts, and those of a count, in the form of document 01.
-const LEAD: usize = 4;
-
-const WIDTH: usize = 8;
-
 // Event `event` of `station`, after the checks.
-pub fn lookup(s: &[u8], station: u8, event: u16) -> Found
+#[tactic(auto, unfolding(crate::specs::Lookup::lookup_of, crate::specs::Lookup::looked_up))]
+pub fn lookup(s: &[u8], station: u8, event: u16) -> Result<Record, Refusal>
     ensures { result ≡ lookup_of lead8 width8 s.now station event }
 {
-    let v = recording::check(s);
-    if let Checked::Refused(x) = v {
-        return not_found(x);
-    }
+    recording::check(s)?;
     let full = recording::full_cut(s);
-    let m = full.counts;
-    if is_recorded(full.n, m, station, event) {
-        return found_at(
-            LEAD,
-            WIDTH,
-            s,
-            full.n as usize,
-            m,
-            (station - 1) as usize,
-            event as usize,
-        );
+    if !is_recorded(full, station, event) {
+        return Err(Refusal::from(Reason::NoRecord));
     }
-    not_found(Refusal {
-        number: 15,
-        station: 0,
-        event: 0,
-    })
+    Ok(found_at(s, Form::of_today(), full, station - 1, event))
 }
 
 // Whether the station is 1 to n, and the event 0 to its m.
-fn is_recorded(n: u8, m: [u16; 8], station: u8, event: u16) -> bool
-    requires { n ≤ 8 }
-    ensures { result ≡ (leb 1 station && leb station n && leb event (at m (station - 1))) }
+fn is_recorded(full: Cut, station: u8, event: u16) -> bool
+    requires { full.n ≤ 8 }
+    ensures { result ≡ (leb 1 station && leb station full.n && leb event (at full.counts (station - 1))) }
 {
-    (1 <= station) & (station <= n) & (event <= m[(station as usize + 7) % 8])
+    1 <= station && station <= full.n && event <= full.counts[usize::from(station) - 1]
 }
 
-// The refusal, and zeros beside it.
-fn not_found(x: Refusal) -> Found
-    ensures { result ≡ not_found x }
+// Event e of the station at place p.
+fn found_at(s: &[u8], form: Form, full: Cut, p: u8, e: u16) -> Record
+    requires { (full ≡ full_of form.lead form.width s.now) × (full.n ≤ 8) × (p < full.n) × (e ≤ m_at form.lead form.width s.now p) }
+    ensures { result ≡ found_of (recording_of form.lead form.width s.now) p e }
 {
-    Found {
-        answer: Checked::Refused(x),
-        origin: 0,
-        number: 0,
-        level: 0,
-        stamp: [0u16; 8],
-    }
-}
-
-// Event e of the station at place p, of n stations with m events each.
-fn found_at(lead: usize, w: usize, s: &[u8], n: usize, m: [u16; 8], p: usize, e: usize) -> Found
-    requires { (lead ≤ 8) × (w ≤ 9) × (n ≡ n_at lead s.now) × (n ≤ 8) × (m ≡ tab 8 (events_at lead w s.now n)) × (p < n) × (e ≤ m_at lead w s.now p) }
-    ensures { result ≡ found_of (recording_of lead w s.now) p e }
-{
-    if e < 1 {
-        return Found {
-            answer: Checked::Accepted,
+    if e == 0 {
+        return Record {
             origin: 0,
             number: 0,
-            level: levels::signed(bits::peek(s, station_bit(lead, w, p) + w, 12)),
-            stamp: [0u16; 8],
+            level: levels::signed(bits::peek(s, form.station_bit(p) + form.width, 12)),
+            stamp: [0; 8],
         };
     }
-    let b = record_bit(lead, w, n, first(m, p) + (e - 1));
-    Found {
-        answer: Checked::Accepted,
-        origin: (bits::peek(s, b, 4) % 16) as u8,
-        number: bits::peek(s, b + 4, w),
-        level: levels::signed(bits::peek(s, b + 4 + w, 12)),
-        stamp: stamp(w, s, n, b + 16 + w),
+    let b = form.record_bit(full.n, first(full, p) + (e - 1));
+    Record {
+        origin: bits::peek(s, b, 4) as u8,
+        number: bits::peek(s, b + 4, form.width),
+        level: levels::signed(bits::peek(s, b + 4 + form.width, 12)),
+        stamp: stamp(s, form.width, full.n, b + 16 + form.width),
     }
 }
 
-// The records before those of the station at place p.
-fn first(m: [u16; 8], p: usize) -> usize
-    requires { p ≤ 8 }
-    ensures { (result ≡ sum_to p (at m)) × (result ≤ 524280) }
+// The records before those of the station at place p, where they are no more than a u16 can count.
+fn first(full: Cut, p: u8) -> u16
+    requires { (p ≤ 8) × (sum (take p full.counts) < 65536) }
+    ensures { result ≡ sum (take p full.counts) }
 {
-    let mut before: usize = 0;
-    let mut q: usize = 0;
-    while q < p {
-        before += m[q] as usize;
-        q += 1;
-    }
-    before
+    full.counts[..usize::from(p)].iter().sum()
 }
 
 // A stamp whose n counts begin at the bit b, 0 in the places beyond n.
-fn stamp(w: usize, s: &[u8], n: usize, b: usize) -> [u16; 8]
-    requires { (w ≤ 9) × (b ≤ 400100) }
-    ensures { result ≡ tab 8 (counted w s.now n b) }
+fn stamp(s: &[u8], width: usize, n: u8, b: usize) -> [u16; 8]
+    requires { (width ≤ 9) × (n ≤ 8) × (b ≤ 200000100) }
+    ensures { result ≡ tab 8 (counted width s.now n b) }
 {
-    let mut t = [0u16; 8];
-    let mut q: usize = 0;
-    while q < 8 {
-        t[q] = count(w, s, n, b, q);
-        q += 1;
+    let mut stamp = [0; 8];
+    for q in 0..usize::from(n) {
+        stamp[q] = bits::peek(s, b + width * q, width);
     }
-    t
-}
-
-// Count q of it.
-fn count(w: usize, s: &[u8], n: usize, b: usize, q: usize) -> u16
-    requires { (w ≤ 9) × (b ≤ 400100) × (q ≤ 8) }
-    ensures { result ≡ counted w s.now n b q }
-{
-    if q < n {
-        return bits::peek(s, b + w * q, w);
-    }
-    0
-}
-
-// The bit where the part of the station at place p begins.
-fn station_bit(lead: usize, w: usize, p: usize) -> usize
-    requires { (lead ≤ 8) × (w ≤ 9) × (p ≤ 15) }
-    ensures { (result ≡ station_bit lead w p) × (result ≤ 323) }
-{
-    lead + (w + 12) * p
-}
-
-// The bit where record r begins.
-fn record_bit(lead: usize, w: usize, n: usize, r: usize) -> usize
-    requires { (lead ≤ 8) × (w ≤ 9) × (n ≤ 8) × (r ≤ 4096) }
-    ensures { (result ≡ record_bit lead w n r) × (result ≤ 400000) }
-{
-    station_bit(lead, w, n) + (4 + w + 12 + w * n) * r
+    stamp
 }

@@ -1,33 +1,32 @@
 -- Laws of steps back on eight counts. In order: the strides; a step back in rank; the searches for a 3; the way back, step by step. Assumes nothing.
 use mathlib.Core.Path.{◌≡◌, refl, sym, ap, ◌∙◌}
-use mathlib.Core.Bool.{Bool, true, false, ◌&&◌, cond}
+use mathlib.Core.Bool.{Bool, true, false, ◌&&◌, cond, false≢true}
+use Rattle.std.specs.Prelude.{Some, None}
 use mathlib.Core.List.{List, [], ◌∷◌, ◌++◌, map, reverse, append-nil, append_assoc, map-append, reverse-cons}
 use Prim.Native.Nat.{ℕ, zero, suc, ◌+◌, ◌-◌, ◌*◌, ◌≤◌, ◌<◌}
+use native.Mathlib.Decide.{dec_lt}
 use native.Mathlib.Numerals.{add-one}
 use native.Mathlib.Omega.{arith}
 use lib.Dec.{ltb, eqb}
-use lib.ListN.{length, take, drop, set, replicate, length-append, length-drop, length-set, length-take, get_or-append, take-append-drop}
+use lib.ListN.{length, take, drop, set, length-set, get_or-append, take-append-drop}
 use lib.Seq.{get_or-take, get_or-set_same, take-set-lt, drop-set-lt, slice, slice_empty, slice-cons}
-use borrow.Author.Tests.{ltb-true, ltb-false}
-use Rattle.cuts.specs.Below.{first, tab}
-use Rattle.cuts.specs.Cut.{at, back, Within}
+use borrow.Author.Tests.{ltb-true, eqb-true}
+use Rattle.cuts.specs.Below.{first, any, tab}
+use Rattle.cuts.specs.Cut.{at, back, total, Within}
 use Rattle.cuts.specs.Rank.{weight, rank, box}
-use Rattle.cuts.specs.Computed.{leads, walk}
+use Rattle.cuts.specs.Computed.{leads, walk, tabled, mark_of}
 use Rattle.cut.specs.Value.{counts_of, FullCut}
 use Rattle.cut.specs.declared.Cut.{Cut}
 use Rattle.cuts.proofs.BelowLaws.{and_true, product_to-same, length_tab, get_d-tab, first_is}
-use Rattle.cuts.proofs.CutLaws.{within_back, within_full, within_length}
-use Rattle.cuts.proofs.RankLaws.{weight_pos, rank_nil, rank_cons, box_nil, box_cons, rank_back}
+use Rattle.cuts.proofs.CutLaws.{within_back, within_full, within_total, total_back}
+use Rattle.cuts.proofs.TabledRight.{tabled_at}
+use Rattle.cuts.proofs.MarksRight.{mark, lead_same, three_from}
+use Rattle.cuts.proofs.RankLaws.{weight_pos, rank_nil, rank_cons, rank_lt, box_nil, box_cons, rank_back}
 use Rattle.marks.specs.Flat.{plain}
-use Rattle.marks.specs.Rows.{strides_of, leads_back, StepsBack, way_to}
-use Rattle.marks.proofs.SearchLaws.{first_same, back_beyond, take_back}
+use Rattle.marks.specs.declared.Task.{Task}
+use Rattle.marks.specs.Rows.{strides_of, leads_back, StepsBack, lattice_of, marks_to, Ready, way_to, place_of}
+use Rattle.marks.proofs.SearchLaws.{first_same, any_same, take_back}
 use Rattle.marks.proofs.RowLaws.{length-counts_of}
-
-pub length-strides_of : (m : Cut) → FullCut m → length (strides_of m) ≡ 8
-unfolding strides_of
-length-strides_of m full =
-    length-append (tab m.n (weight m.counts)) _
-    ∙ omega (arith, length_tab m.n (weight m.counts), length-drop {A = ℕ} m.n (replicate 8 0), full.most_eight)
 
 module _ (m : Cut) (full : FullCut m) (eight : length m.counts ≡ 8) where
   pub at-strides_of : (p : ℕ) → p < m.n → at (strides_of m) p ≡ weight (counts_of m) p
@@ -71,22 +70,6 @@ module _ (m : Cut) (full : FullCut m) (eight : length m.counts ≡ 8) where
         → first (leads (take m.n d) (λ q. at marks (rank (counts_of m) (back q (take m.n d))))) (length (counts_of m)) ≡ first (leads_back marks d (strides_of m) r) m.n
     first_leads marks = rw (length-counts_of m full eight) (first_same _ _ m.n (leads_same marks))
 
-    -- a place that was found has an event to step back from
-    pub found_pos : (marks : List ℕ) (p : ℕ) → p ≡ first (leads_back marks d (strides_of m) r) m.n → p < m.n → 0 < at d p
-    unfolding leads_back
-    found_pos marks p e h =
-        let f = (first_is (leads_back marks d (strides_of m) r) m.n).passes (rw e at h) in
-        ltb-true _ _ (and_true _ _ (rw (← e) at f)).0
-
-    -- the rank after the step
-    pub rank_stepped : (marks : List ℕ) (p : ℕ) → p ≡ first (leads_back marks d (strides_of m) r) m.n
-        → cond (ltb p m.n) (r - at (strides_of m) p) r ≡ rank (counts_of m) (take m.n (back p d))
-    rank_stepped marks p e = rw (take_back m.n p d) (go (ltb p m.n) refl)
-      where
-        go : (b : Bool) → ltb p m.n ≡ b → cond b (r - at (strides_of m) p) r ≡ rank (counts_of m) (back p (take m.n d))
-        go true t = omega (arith, rank_stride p (ltb-true _ _ t) (found_pos marks p e (ltb-true _ _ t)))
-        go false t = rw (back_beyond p (take m.n d) (omega (arith, ltb-false p m.n t, within_length (counts_of m) (take m.n d) w, length-counts_of m full eight))) refl
-
     -- one step of the way
     pub way_to-more : (marks : List ℕ) (k p : ℕ) → p ≡ first (leads_back marks d (strides_of m) r) m.n
         → way_to (counts_of m) marks (k + 1) (take m.n d) ≡ way_to (counts_of m) marks k (take m.n (back p d)) ++ (suc p ∷ [])
@@ -115,78 +98,138 @@ length_back p [] = refl
 length_back zero (x ∷ c) = refl
 length_back (suc p) (x ∷ c) = ap suc (length_back p c)
 
--- a step back that is taken only at a place below n
-length_stepped : (b : Bool) (p : ℕ) (c : List ℕ) → length (cond b (back p c) c) ≡ length c
-length_stepped true p c = length_back p c
-length_stepped false p c = refl
-
-take_stepped : (n p : ℕ) (c : List ℕ) → take n (cond (ltb p n) (back p c) c) ≡ take n (back p c)
-take_stepped n p c = go (ltb p n) refl
+-- what a search found
+pub place_found : (f : ℕ → Bool) (n p : ℕ) → place_of n (first f n) ≡ Some p → (p ≡ first f n) × (p < n) × (f p ≡ true)
+unfolding place_of
+place_found f n p e = go (ltb (first f n) n) refl e
   where
-    go : (b : Bool) → ltb p n ≡ b → take n (cond b (back p c) c) ≡ take n (back p c)
-    go true e = refl
-    go false e = sym (take_back n p c ∙ back_beyond p (take n c) (omega (arith, ltb-false p n e, length-take n c)))
+    go : (b : Bool) → ltb (first f n) n ≡ b → cond b (Some (first f n)) None ≡ Some p → (p ≡ first f n) × (p < n) × (f p ≡ true)
+    go true t s =
+        let same : first f n ≡ p = cc in
+        rw (← same) (refl, ltb-true _ _ t, (first_is f n).passes (ltb-true _ _ t))
+    go false t s = cc
 
--- what is so of the room, the counts and the rank when k of the events are left
-pub record Walked (full marks room : List ℕ) (events n : ℕ) (path counts : List ℕ) (r k : ℕ) : Type 0 where
-  pub place : k ≤ events
-  pub length : lib.ListN.length path ≡ lib.ListN.length room
-  pub eight : lib.ListN.length counts ≡ 8
-  pub cut : Within full (take n counts)
-  pub ranked : r ≡ rank full (take n counts)
-  pub way : way_to full marks events full ≡ way_to full marks k (take n counts) ++ slice k events path
-  pub rest : drop events path ≡ drop events room
+-- .. and one that found nothing
+pub place_lost : (f : ℕ → Bool) (n : ℕ) → place_of n (first f n) ≡ None → any f n ≡ false
+unfolding place_of any
+place_lost f n e = go (ltb (first f n) n) e
+  where
+    go : (b : Bool) → cond b (Some (first f n)) None ≡ None → b ≡ false
+    go true s = cc
+    go false s = refl
 
-module _ (m : Cut) (full : FullCut m) (eight : length m.counts ≡ 8) (marks room : List ℕ) (events : ℕ) where
-  -- at the full cut
-  pub walked_start : Walked (counts_of m) marks room events m.n room m.counts (rank (counts_of m) (counts_of m)) events
-  walked_start = record {
-    place = omega arith;
-    length = refl;
-    eight = eight;
-    cut = within_full (counts_of m);
-    ranked = refl;
-    way = sym (rw (slice_empty events room) (append-nil (way_to (counts_of m) marks events (counts_of m))));
-    rest = refl;
-  }
+module _ (task : Task) (ready : Ready task) where
+  abbrev m : Cut
+  m = task.full
 
-  module _ (path counts : List ℕ) (r k : ℕ) (t : Walked (counts_of m) marks room events m.n path counts r k) (strides : List ℕ) (s : strides ≡ strides_of m) where
-    -- no step back leaves the box
-    pub walked_steps : StepsBack m.n counts strides r
-    walked_steps = rw (s, t.ranked) (steps_back m full eight counts t.cut)
+  abbrev full : List ℕ
+  full = counts_of m
 
-    -- a place that was found has one
-    pub walked_found : (p : ℕ) → p ≡ first (leads_back marks counts strides r) m.n → p < m.n → (0 < at counts p) × (at strides p ≤ r)
-    walked_found p e h =
-        let f : p ≡ first (leads_back marks counts (strides_of m) (rank (counts_of m) (take m.n counts))) m.n = rw (s, t.ranked) at e in
-        let g = found_pos m full eight counts t.cut marks p f h in
-        (g, (walked_steps p h g).1)
+  -- from a 3 that is not the start some step back leads to a 3
+  three_leads : (size : ℕ) → size ≡ box full → (d : List ℕ) → Within full (take m.n d) → at (marks_to task size) (rank full (take m.n d)) ≡ 3
+      → 0 < total (take m.n d) → any (leads_back (marks_to task size) d (strides_of m) (rank full (take m.n d))) m.n ≡ true
+  unfolding marks_to
+  three_leads size e d w three pos =
+      sym (any_same (leads c (λ p. cond (ltb 0 (at c p)) (mark (lattice_of task) (back p c)) 0)) (leads_back marks d (strides_of m) (rank full c)) m.n same)
+      ∙ rw (length-counts_of m ready.full ready.rows.eight) at (three_from (lattice_of task) c (sym (marked c w) ∙ three) pos)
+    where
+      c : List ℕ
+      c = take m.n d
 
-  -- one step back
-  pub walked_more : (path counts next : List ℕ) (r j p : ℕ) → Walked (counts_of m) marks room events m.n path counts r (j + 1) → events ≤ length room
-      → p ≡ first (leads_back marks counts (strides_of m) r) m.n → next ≡ cond (ltb p m.n) (back p counts) counts
-      → Walked (counts_of m) marks room events m.n (set path j (p + 1)) next (cond (ltb p m.n) (r - at (strides_of m) p) r) j
-  walked_more path counts next r j p t g e d =
-      let f : p ≡ first (leads_back marks counts (strides_of m) (rank (counts_of m) (take m.n counts))) m.n = rw t.ranked at e in
-      let stepped : take m.n next ≡ take m.n (back p counts) = rw d (take_stepped m.n p counts) in
-      record {
-        place = omega (arith, t.place);
-        length = simp length-set t.length;
-        eight = rw d (length_stepped (ltb p m.n) p counts) ∙ t.eight;
-        cut = rw (stepped, take_back m.n p counts) (within_back (counts_of m) _ p t.cut);
-        ranked = rw (stepped, t.ranked) (rank_stepped m full eight counts t.cut marks p f);
-        way =
-            t.way
-            ∙ rw
-            (stepped, slice_more path j events (p + 1) (omega (arith, t.place)) (omega (arith, t.length)), way_to-more m full eight counts t.cut marks j p f, add-one p)
-            (append_assoc (way_to (counts_of m) marks j (take m.n (back p counts))) (suc p ∷ []) (slice (j + 1) events path));
-        rest = drop-set-lt events path j (p + 1) (omega (arith, t.place)) ∙ t.rest;
-      }
+      marks : List ℕ
+      marks = tabled (mark_of (lattice_of task)) full size
 
-  -- at the start
-  pub walked_done : (path counts : List ℕ) (r k : ℕ) → Walked (counts_of m) marks room events m.n path counts r k → k ≤ 0
-      → path ≡ way_to (counts_of m) marks events (counts_of m) ++ drop events room
-  unfolding way_to walk
-  walked_done path counts r k t h =
-      let z : k ≡ 0 = omega arith in
-      sym (rw (t.way, z, ← t.rest) (take-append-drop events path))
+      marked : (c : List ℕ) → Within full c → at marks (rank full c) ≡ mark (lattice_of task) c
+      marked c w = tabled_at (mark_of (lattice_of task)) full size c w (rw e (rank_lt full c w))
+
+      same : (p : ℕ) → p < m.n → leads c (λ p. cond (ltb 0 (at c p)) (mark (lattice_of task) (back p c)) 0) p ≡ leads_back marks d (strides_of m) (rank full c) p
+      same p l =
+          lead_same (lattice_of task) c p
+          ∙ rw (sym (marked (back p c) (within_back full c p w))) (leads_same m ready.full ready.rows.eight d w marks p l)
+
+  -- what is so of the room, the counts and the rank when k of the events are left
+  pub record Walked (marks room path counts : List ℕ) (r k : ℕ) : Type 0 where
+    pub eight : length counts ≡ 8
+    pub cut : Within full (take m.n counts)
+    pub left : total (take m.n counts) ≡ k
+    pub ranked : r ≡ rank full (take m.n counts)
+    pub three : at marks r ≡ 3
+    pub way : way_to full marks (total full) full ≡ way_to full marks k (take m.n counts) ++ slice k (total full) path
+    pub rest : drop (total full) path ≡ drop (total full) room
+
+  module _ (marks room : List ℕ) where
+    -- at the full cut
+    pub walked_start : (r k : ℕ) → rank full full ≡ r → k ≡ total full → at marks r ≡ 3 → Walked marks room room m.counts r k
+    walked_start r k e t three = record {
+      eight = ready.rows.eight;
+      cut = within_full full;
+      left = sym t;
+      ranked = sym e;
+      three = three;
+      way = sym (rw (t, slice_empty (total full) room) (append-nil (way_to full marks (total full) full)));
+      rest = refl;
+    }
+
+    module _ (path counts : List ℕ) (r k : ℕ) (t : Walked marks room path counts r k) where
+      abbrev search : ℕ → Bool
+      search = leads_back marks counts (strides_of m) r
+
+      -- no step back leaves the box
+      pub walked_steps : StepsBack m.n counts (strides_of m) r
+      walked_steps = rw t.ranked (steps_back m ready.full ready.rows.eight counts t.cut)
+
+      pub walked_inside : (r < box full) × (k ≤ total full)
+      walked_inside = (omega (arith, t.ranked, rank_lt full (take m.n counts) t.cut), omega (arith, t.left, within_total full (take m.n counts) t.cut))
+
+      module _ (p : ℕ) (e : place_of m.n (first search m.n) ≡ Some p) where
+        -- a place that was found has an event to step back from
+        pub walked_found : (p < m.n) × (0 < at counts p) × (at (strides_of m) p ≤ r) × (at marks (r - at (strides_of m) p) ≡ 3)
+        unfolding leads_back
+        walked_found =
+            let f = place_found search m.n p e in
+            let b = and_true (ltb 0 (at counts p)) _ f.2 in
+            let pos = ltb-true _ _ b.0 in
+            (f.1, pos, (walked_steps p f.1 pos).1, eqb-true _ _ b.1)
+
+        pub walked_left : 0 < k
+        walked_left =
+            let f = walked_found in
+            omega (arith, t.left, total_back p (take m.n counts) (rw (get_or-take m.n counts p 0 f.0) f.1))
+
+        -- one step back
+        pub walked_more : total full ≤ length path → Walked marks room (set path (k - 1) (p + 1)) (back p counts) (r - at (strides_of m) p) (k - 1)
+        walked_more g =
+            let f = walked_found in
+            let j : ℕ = k - 1 in
+            let next : k ≡ j + 1 = omega (arith, walked_left) in
+            let pos : 0 < at (take m.n counts) p = rw (get_or-take m.n counts p 0 f.0) f.1 in
+            let place : p ≡ first (leads_back marks counts (strides_of m) (rank full (take m.n counts))) m.n = rw t.ranked at (place_found search m.n p e).0 in
+            let here : j < total full = omega (arith, walked_inside.1, walked_left) in
+            record {
+              eight = length_back p counts ∙ t.eight;
+              cut = rw (take_back m.n p counts) (within_back full _ p t.cut);
+              left = rw (take_back m.n p counts) (omega (arith, t.left, total_back p (take m.n counts) pos));
+              ranked = rw (take_back m.n p counts) (omega (arith, t.ranked, rank_stride m ready.full ready.rows.eight counts t.cut p f.0 f.1));
+              three = f.3;
+              way =
+                  rw (slice_more path j (total full) (p + 1) here g, add-one p)
+                  (t.way
+                  ∙ ap (λ (i : ℕ). way_to full marks i (take m.n counts) ++ slice i (total full) path) next
+                  ∙ ap (λ (l : List ℕ). l ++ slice (j + 1) (total full) path) (way_to-more m ready.full ready.rows.eight counts t.cut marks j p place)
+                  ∙ append_assoc (way_to full marks j (take m.n (back p counts))) (suc p ∷ []) (slice (j + 1) (total full) path));
+              rest = drop-set-lt (total full) path j (p + 1) here ∙ t.rest;
+            }
+
+      -- where no step back leads to a 3 the start is reached
+      pub walked_done : (size : ℕ) → size ≡ box full → marks ≡ marks_to task size → place_of m.n (first search m.n) ≡ None
+          → path ≡ way_to full marks (total full) full ++ drop (total full) room
+      unfolding way_to walk
+      walked_done size s same e =
+          let z : k ≡ 0 = go (dec_lt 0 k) in
+          sym (rw (t.way, z, ← t.rest) (take-append-drop (total full) path))
+        where
+          go : Dec (0 < k) → k ≡ 0
+          go (yes h) =
+              let some = three_leads size s counts t.cut (rw (same, t.ranked) at t.three) (rw (← t.left) at h) in
+              absurd (false≢true (sym (rw (same, t.ranked) at (place_lost search m.n e)) ∙ some))
+          go (no h) = omega arith

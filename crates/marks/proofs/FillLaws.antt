@@ -3,12 +3,13 @@
 use mathlib.Core.Path.{◌≡◌, refl, sym, ap, ◌∙◌, subst}
 use mathlib.Core.Bool.{Bool, true, false, ◌&&◌, ◌||◌, cond, false≢true}
 use mathlib.Core.List.{List, [], ◌∷◌, ◌++◌}
+use Rattle.std.specs.Prelude.{Some, None}
 use Prim.Native.Nat.{ℕ, zero, suc, ◌+◌, ◌-◌, ◌*◌, ◌≤◌, ◌<◌}
-use native.Mathlib.Nat.{zero-mod, zero-div, le_antisymm}
+use native.Mathlib.Nat.{zero-mod, zero-div}
 use native.Mathlib.Numerals.{add-one}
 use native.Mathlib.Omega.{arith}
 use lib.Dec.{leb, ltb, eqb}
-use lib.ListN.{length, take, drop, set, replicate, length-set, length-replicate}
+use lib.ListN.{length, take, drop, set, replicate}
 use lib.Seq.{get_or-set_same, get_or-set_other, get_or-take, set-get_or, ext_get_or, length-take-le, take_at}
 use borrow.Author.Tests.{leb-true, le-leb, lt-leb, lt-ltb, ltb-true, ltb-false, eqb-true, eq-eqb}
 use Rattle.cuts.specs.Below.{every, any, sum_to, tab}
@@ -23,13 +24,13 @@ use Rattle.cuts.proofs.RankLaws.{unrank_within, rank_unrank, rank_zeros}
 use Rattle.cuts.proofs.TabledRight.{length_tabled}
 use Rattle.cut.proofs.ValueLaws.{at-counts_of}
 use Rattle.cuts.proofs.ReplyLaws.{refuted}
-use Rattle.marks.specs.declared.Frame.{Frame}
-use Rattle.marks.specs.declared.Others.{Others}
+use Rattle.marks.specs.declared.Task.{Task}
+use Rattle.marks.specs.declared.frame.Others.{Others}
 use Rattle.marks.specs.Flat.{row_met, between, flat_consistent, flat_holds}
-use Rattle.marks.specs.Rows.{cut_at, strides_of, leads_back, others_met, others_need, others_add, others_of, Task, lattice_of, marks_to, Ready, RowAt, frame_of, cut_mark, row_marks, RowReady, BlankFrom}
+use Rattle.marks.specs.Rows.{cut_at, strides_of, leads_back, StepsBack, others_met, others_need, others_add, others_of, asked, lattice_of, marks_to, RowsThere, Ready, RowAt, cut_mark, row_marks, BlankFrom}
 use Rattle.marks.proofs.SearchLaws.{tests_same, every_split, sum_to-split, any_same, leb-most_to}
 use Rattle.marks.proofs.RowLaws.{length_unrank, length-counts_of, drop_front, blank_rest}
-use Rattle.marks.proofs.BackLaws.{length-strides_of, steps_back, leads_same}
+use Rattle.marks.proofs.BackLaws.{steps_back, leads_same}
 
 -- of two cuts of a row, with x and with all events of station 1
 module _ (n : ℕ) (some : 1 ≤ n) (needs top : List ℕ) (long : 0 < length top) (x : ℕ) where
@@ -230,41 +231,38 @@ module _ (m : Cut) (full : FullCut m) (eight : length m.counts ≡ 8) (top : Lis
             take_row
             (leads_same m full eight (set top 0 x) within_row l p k ∙ rw rank_row refl)
 
-module _ (task : Task) (needs weights : List ℕ) where
+module _ (task : Task) where
   abbrev m : Cut
   m = task.full
 
-  pub length-marks_to : (r : ℕ) → length (marks_to task needs weights r) ≡ r
+  abbrev needs : List ℕ
+  needs = task.needs.now
+
+  abbrev weights : List ℕ
+  weights = task.weights.now
+
+  pub length-marks_to : (r : ℕ) → length (marks_to task r) ≡ r
   unfolding marks_to
-  length-marks_to r = length_tabled (mark_of (lattice_of task needs weights)) (counts_of m) r
+  length-marks_to r = length_tabled (mark_of (lattice_of task)) (counts_of m) r
 
   -- the rows that are still to be filled are blank
-  pub blank_behind : (d d' marks : List ℕ) (size first width : ℕ) → d' ≡ marks_to task needs weights first ++ drop first d → first + width ≤ size
-      → d ≡ replicate size 0 ++ drop size marks → BlankFrom d' first width
-  blank_behind d d' marks size first width e h b = rw e (blank_rest (marks_to task needs weights first) d marks size first width (length-marks_to first) h b)
-
-  -- after the last row
-  pub blank_end : (d d' marks : List ℕ) (size first : ℕ) → d' ≡ marks_to task needs weights first ++ drop first d → first ≤ size → size ≤ first
-      → d ≡ replicate size 0 ++ drop size marks → d' ≡ marks_to task needs weights size ++ drop size marks
-  blank_end d d' marks size first e h g b =
-      rw (le_antisymm h g) at e
-      ∙ ap (λ (l : List ℕ). marks_to task needs weights size ++ l) (rw b (drop_front (replicate size 0) marks size size (length-replicate size 0) (omega arith)))
+  pub blank_behind : (size first width : ℕ) → first + width ≤ size → BlankFrom (marks_to task first ++ drop first (replicate size 0)) first width
+  blank_behind size first width h = blank_rest (marks_to task first) size first width (length-marks_to first) h
 
   -- the mark of rank r, from the marks l of the ranks below
   abbrev next_mark : ℕ → List ℕ → ℕ
   next_mark r l =
-      mark_of (lattice_of task needs weights) (unrank (counts_of m) r)
+      mark_of (lattice_of task) (unrank (counts_of m) r)
       (λ p. cond (ltb 0 (at (unrank (counts_of m) r) p)) (at l (rank (counts_of m) (back p (unrank (counts_of m) r)))) 0)
 
-  marks_to-more : (r : ℕ) → marks_to task needs weights (suc r) ≡ marks_to task needs weights r ++ (next_mark r (marks_to task needs weights r) ∷ [])
+  marks_to-more : (r : ℕ) → marks_to task (suc r) ≡ marks_to task r ++ (next_mark r (marks_to task r) ∷ [])
   unfolding marks_to tabled
   marks_to-more r = refl
 
   module _ (full : FullCut m) (eight : length m.counts ≡ 8) (top : List ℕ) (first : ℕ) (at_row : RowAt m top first) (few : at m.counts 0 < 65536) where
     -- the mark of a cut of the row
     row_mark-is : (x : ℕ) → x ≤ at m.counts 0 → (l : List ℕ)
-        → cond (ltb x (others_of m.n task.bases needs weights top).low) 0
-        (cut_mark (frame_of task) (others_of m.n task.bases needs weights top).sum needs weights (strides_of m) l (set top 0 x) x (first + x))
+        → cond (ltb x (asked (others_of task top)).low) 0 (cut_mark task (asked (others_of task top)).sum l (set top 0 x) x (first + x))
         ≡ next_mark (first + x) l
     unfolding others_of cut_mark mark_of
     row_mark-is x h l = go (others_met m.n task.bases needs top) refl
@@ -275,10 +273,13 @@ module _ (task : Task) (needs weights : List ℕ) where
         add : ℕ
         add = others_add m.n task.bases weights top
 
+        of : Bool → Others
+        of b = asked (cond b (Some (record { low = need; sum = add })) None)
+
         go : (b : Bool) → others_met m.n task.bases needs top ≡ b
-            → cond (ltb x (cond {A = Others} b (record { low = need; sum = add }) (record { low = 65536; sum = 0 })).low) 0
+            → cond (ltb x (of b).low) 0
             (number (row_met m.n needs (8 * (at task.bases 0 + x)) (set top 0 x))
-            (between task.least task.most ((cond {A = Others} b (record { low = need; sum = add }) (record { low = 65536; sum = 0 })).sum + at weights (at task.bases 0 + x)))
+            (between task.least task.most ((of b).sum + at weights (at task.bases 0 + x)))
             (eqb (first + x) 0 || any (leads_back l (set top 0 x) (strides_of m) (first + x)) m.n))
             ≡ next_mark (first + x) l
         go true t =
@@ -302,22 +303,16 @@ module _ (task : Task) (needs weights : List ℕ) where
 
     -- the marks after x cuts of a row
     pub row_marks-is : (x : ℕ) → x ≤ suc (at m.counts 0)
-        → row_marks (frame_of task) (others_of m.n task.bases needs weights top) needs weights (strides_of m) top first (marks_to task needs weights first) x
-        ≡ marks_to task needs weights (first + x)
+        → row_marks task (asked (others_of task top)) top first (marks_to task first) x ≡ marks_to task (first + x)
     unfolding row_marks
     row_marks-is zero h =
         let e : first + 0 ≡ first = omega arith in
         rw e refl
     row_marks-is (suc x) h =
         let e : first + suc x ≡ suc (first + x) = omega arith in
-        rw (e, marks_to-more (first + x), row_marks-is x (omega arith), row_mark-is x (omega arith) (marks_to task needs weights (first + x))) refl
+        rw (e, marks_to-more (first + x), row_marks-is x (omega arith), row_mark-is x (omega arith) (marks_to task (first + x))) refl
 
-module _ (task : Task) (needs weights : List ℕ) (room : ℕ) (ready : Ready task needs weights room) (top : List ℕ) (first : ℕ) (at_row : RowAt task.full top first)
-    (bases strides : List ℕ) (bases-are : bases ≡ task.bases) (strides-are : strides ≡ strides_of task.full) (k : ℕ) (events : k ≡ at task.full.counts 0) where
-  -- what the rows have in common, station 1 having k events
-  abbrev frame : Frame
-  frame = record { n = task.full.n; width = k + 1; base = at bases 0; least = task.least; most = task.most }
-
+module _ (task : Task) (ready : Ready task) (top : List ℕ) (first : ℕ) (at_row : RowAt task.full top first) where
   -- no count of the row is above its station's events
   top_under : (p : ℕ) → p < task.full.n → at top p ≤ at task.full.counts p
   top_under p l =
@@ -326,43 +321,40 @@ module _ (task : Task) (needs weights : List ℕ) (room : ℕ) (ready : Ready ta
       let w = within_at (counts_of task.full) (take task.full.n (set top 0 k)) (within_row task.full ready.full ready.rows.eight top first at_row k (omega arith)) p in
       omega (arith, rw (same, get_or-take task.full.n top p 0 l, at-counts_of task.full p l) at w)
 
-  -- every cut of the row can be marked
-  pub row_ready : RowReady frame needs weights bases strides room top first
-  row_ready = rw (events, bases-are, strides-are) (record {
-    rows = record {
-      some = ready.rows.some;
-      most = ready.rows.most;
-      starts = ready.rows.starts;
-      eight = at_row.eight;
-      needed = λ p l. omega (arith, ready.rows.needed p l, top_under p l);
-      weighed = λ p l. omega (arith, ready.rows.weighed p l, top_under p l);
-    };
-    short = omega (arith, at_row.within, ready.limit);
-    inside = omega (arith, at_row.within, ready.fits);
-    each = λ x h.
-        let k : x ≤ at task.full.counts 0 = omega arith in
-        record {
-          stations = ready.rows.most;
-          counts = simp length-set (omega (arith, at_row.eight, ready.rows.most));
-          strided = omega (arith, length-strides_of task.full ready.full, ready.rows.most);
-          needed = omega (arith, ready.rows.needed 0 ready.rows.some);
-          weighed = omega (arith, ready.rows.weighed 0 ready.rows.some);
-          back = rw (← rank_row task.full ready.full ready.rows.eight top first at_row x k)
-              (steps_back task.full ready.full ready.rows.eight (set top 0 x) (within_row task.full ready.full ready.rows.eight top first at_row x k));
-          fits = omega (arith, at_row.within, ready.fits);
-        };
-  })
+  -- the tables have the rows of its last cut
+  pub rows_there : RowsThere task.full.n task.bases task.needs.now task.weights.now top
+  rows_there = record {
+    some = ready.rows.some;
+    most = ready.rows.most;
+    starts = ready.rows.starts;
+    eight = at_row.eight;
+    needed = λ p l. omega (arith, ready.rows.needed p l, top_under p l);
+    weighed = λ p l. omega (arith, ready.rows.weighed p l, top_under p l);
+  }
+
+  -- a row is short, and lies within the box
+  pub row_short : at task.full.counts 0 + 1 ≤ 65536
+  row_short = omega (arith, at_row.within, ready.limit)
+
+  pub row_inside : first + (at task.full.counts 0 + 1) ≤ box (counts_of task.full)
+  row_inside = omega (arith, at_row.within)
+
+  -- no step back from its cut with x events of station 1 leaves the box
+  pub row_steps : (x : ℕ) → x ≤ at task.full.counts 0 → StepsBack task.full.n (set top 0 x) (strides_of task.full) (first + x)
+  row_steps x k =
+      rw (← rank_row task.full ready.full ready.rows.eight top first at_row x k)
+      (steps_back task.full ready.full ready.rows.eight (set top 0 x) (within_row task.full ready.full ready.rows.eight top first at_row x k))
 
   -- the marks after one row more
-  pub row_marked : (counts marks marks₁ marks₂ : List ℕ) → counts ≡ top → marks₁ ≡ marks_to task needs weights first ++ drop first marks
-      → marks₂ ≡ row_marks frame (others_of task.full.n bases needs weights counts) needs weights strides counts first (take first marks₁) (k + 1) ++ drop (first + (k + 1)) marks₁
-      → marks₂ ≡ marks_to task needs weights (first + (k + 1)) ++ drop (first + (k + 1)) marks
-  row_marked counts marks marks₁ marks₂ laid before after =
-      let width : ℕ = k + 1 in
-      let front : take first marks₁ ≡ marks_to task needs weights first = rw before (take_at _ _ _ (length-marks_to task needs weights first)) in
-      let rest : drop (first + width) marks₁ ≡ drop (first + width) marks =
-      rw before (drop_front (marks_to task needs weights first) marks first (first + width) (length-marks_to task needs weights first) (omega arith)) in
+  pub row_marked : (size : ℕ) (marks marks' : List ℕ) → marks ≡ marks_to task first ++ drop first (replicate size 0)
+      → marks' ≡ row_marks task (asked (others_of task top)) top first (take first marks) (at task.full.counts 0 + 1) ++ drop (first + (at task.full.counts 0 + 1)) marks
+      → marks' ≡ marks_to task (first + (at task.full.counts 0 + 1)) ++ drop (first + (at task.full.counts 0 + 1)) (replicate size 0)
+  row_marked size marks marks' before after =
+      let width : ℕ = at task.full.counts 0 + 1 in
+      let front : take first marks ≡ marks_to task first = rw before (take_at _ _ _ (length-marks_to task first)) in
+      let rest : drop (first + width) marks ≡ drop (first + width) (replicate size 0) =
+      rw before (drop_front (marks_to task first) (replicate size 0) first (first + width) (length-marks_to task first) (omega arith)) in
       after
-      ∙ rw (laid, front, rest, events, bases-are, strides-are)
-      (ap (λ (l : List ℕ). l ++ drop (first + (at task.full.counts 0 + 1)) marks)
-      (row_marks-is task needs weights ready.full ready.rows.eight top first at_row (omega (arith, at_row.within, ready.limit)) (at task.full.counts 0 + 1) (omega arith)))
+      ∙ rw (front, rest)
+      (ap (λ (l : List ℕ). l ++ drop (first + (at task.full.counts 0 + 1)) (replicate size 0))
+      (row_marks-is task ready.full ready.rows.eight top first at_row (omega (arith, at_row.within, ready.limit)) (at task.full.counts 0 + 1) (omega arith)))

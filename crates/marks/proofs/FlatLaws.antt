@@ -1,14 +1,15 @@
 -- Laws of what is promised. In order: rows that are there; the size of a box; what makes a box one that can be settled, its size, and what is settled; the
 -- witness; the path. Assumes nothing.
-use mathlib.Core.Path.{◌≡◌, refl, sym, ◌∙◌}
-use mathlib.Core.Bool.{Bool, true, false, ◌&&◌, not, false≢true}
+use mathlib.Core.Path.{◌≡◌, refl, sym, ap, ◌∙◌}
+use mathlib.Core.Bool.{Bool, true, false, ◌&&◌, not, cond, false≢true}
+use Rattle.std.specs.Prelude.{Some, None}
 use mathlib.Core.Logic.{◌↔◌}
 use mathlib.Core.List.{List, ◌++◌}
-use Prim.Native.Nat.{ℕ, ◌+◌, ◌-◌, ◌*◌, ◌/◌, ◌≤◌, ◌<◌}
+use Prim.Native.Nat.{ℕ, ◌+◌, ◌-◌, ◌*◌, ◌/◌, ◌^◌, ◌≤◌, ◌<◌, min}
 use native.Mathlib.Omega.{arith}
 use lib.Dec.{leb, ltb, eqb}
 use lib.ListN.{length, drop}
-use borrow.Author.Tests.{lt-ltb, le-ltb, le-leb, leb-true, ltb-true, eq-eqb, ne_eqb}
+use borrow.Author.Tests.{lt-ltb, le-leb, leb-true, ltb-true, eq-eqb, ne_eqb}
 use Rattle.cuts.specs.Below.{every, first}
 use Rattle.cuts.specs.Cut.{at, total}
 use Rattle.cuts.specs.Rank.{box, rank, unrank}
@@ -17,26 +18,39 @@ use Rattle.cut.specs.declared.Cut.{Cut}
 use Rattle.cuts.proofs.BelowLaws.{and_true, every_true}
 use Rattle.cuts.proofs.RankLaws.{box_pos}
 use Rattle.cuts.proofs.ReplyLaws.{refuted}
+use Rattle.cuts.proofs.TabledRight.{length_tabled}
 use Rattle.cut.proofs.ValueRight.{is_full-is, box_of-full, box_of-none, events_of-full}
-use Rattle.marks.specs.declared.Settled.{Settled}
-use Rattle.marks.specs.Flat.{row_there, filled, settleable, cut_of_counts, no_witness, settled_of, witness_of, avoided, walked, Settles}
-use Rattle.marks.specs.Rows.{task_of, marks_to, Ready, way_to, size_of}
+use Rattle.marks.specs.declared.Task.{Task}
+use Rattle.marks.specs.declared.Verdicts.{Verdicts}
+use Rattle.marks.specs.Flat.{row_there, filled, settleable, can_settle, cut_of_counts, settled_of, witness_in, witness_of, avoided, walked, Settles}
+use Rattle.marks.specs.Rows.{marks_to, Ready, way_to, place_of}
 use Rattle.marks.proofs.SearchLaws.{tests_same, and_both}
 use Rattle.marks.proofs.BackLaws.{rank_full}
+use Rattle.marks.proofs.WalkLaws.{front}
+use Rattle.std.proofs.Math.Option as math
 
--- a row beyond the tables
-pub row_there-no : (cells rows r : ℕ) → rows ≤ r → false ≡ row_there cells rows r
+-- row b of the tables, held at the largest number of the machine
+pub row_there-is : (cells rows b : ℕ) → rows < 2 ^ 64
+    → (ltb (min b (2 ^ 64 - 1)) rows && ltb (min b (2 ^ 64 - 1)) (cells / 8)) ≡ row_there cells rows b
 unfolding row_there
-row_there-no cells rows r h = simp (le-ltb r rows h)
+row_there-is cells rows b h = tests_same _ _ reads tests
+  where
+    r : ℕ
+    r = min b (2 ^ 64 - 1)
 
--- one within the rows is there exactly if it is below an eighth of the cells
-pub row_there-is : (cells rows r : ℕ) → r < rows → ltb r (cells / 8) ≡ row_there cells rows r
-unfolding row_there
-row_there-is cells rows r h =
-    rw (lt-ltb r rows h)
-    (tests_same (ltb r (cells / 8)) (leb (8 * r + 8) cells)
-    (λ t. le-leb (8 * r + 8) cells (omega (arith, ltb-true r (cells / 8) t)))
-    (λ t. lt-ltb r (cells / 8) (omega (arith, leb-true (8 * r + 8) cells t))))
+    reads : (ltb r rows && ltb r (cells / 8)) ≡ true → (ltb b rows && leb (8 * b + 8) cells) ≡ true
+    reads t =
+        let (x, y) = and_true (ltb r rows) (ltb r (cells / 8)) t in
+        let short : r < rows = ltb-true r rows x in
+        let same : r ≡ b = omega (arith, short) in
+        and_both (lt-ltb b rows (omega (arith, short))) (le-leb (8 * b + 8) cells (omega (arith, ltb-true r (cells / 8) y, same)))
+
+    tests : (ltb b rows && leb (8 * b + 8) cells) ≡ true → (ltb r rows && ltb r (cells / 8)) ≡ true
+    tests t =
+        let (x, y) = and_true (ltb b rows) (leb (8 * b + 8) cells) t in
+        let short : b < rows = ltb-true b rows x in
+        let same : r ≡ b = omega (arith, short) in
+        and_both (lt-ltb r rows (omega (arith, short, same))) (lt-ltb r (cells / 8) (omega (arith, leb-true (8 * b + 8) cells y, same)))
 
 -- what a row that is there has
 pub row_there-has : (cells rows r : ℕ) → row_there cells rows r ≡ true → (8 * r + 8 ≤ cells) × (r < rows)
@@ -84,35 +98,30 @@ module _ (m : Cut) (bases : List ℕ) (cells rows marks path : ℕ) where
           && every m.n (λ p. row_there cells rows (at bases p + at m.counts p))) ≡ true
       tests f = and_both (and_both (and_both (and_both ((is_full-is m).1 f.full) (le-leb _ _ f.limit)) (le-leb _ _ f.fits)) (le-leb _ _ f.way)) f.there
 
-  -- what is answered where the box cannot be settled
-  pub size_none : (Settleable m bases cells rows marks path → ⊥) → 0 ≡ size_of m bases cells rows marks path
-  unfolding size_of
-  size_none h = rw (refuted (settleable m bases cells rows marks path) (λ t. h (settleable_is.0 t))) refl
-
-  -- what the tests of the size, of the room and of the rows say
+  -- what the tests of the size, of the rooms and of the rows say
   module _ (size steps : ℕ) (all : Bool) (is-box : size ≡ box_of m) (is_some : 1 ≤ size) (is-total : steps ≡ events_of m)
       (is_all : all ≡ every m.n (λ p. row_there cells rows (at bases p + at m.counts p))) where
     full : FullCut m
     full = full_sized m size is-box is_some
 
-    pub size_some : (leb size 65536 && leb size marks && leb steps path && all) ≡ true → size ≡ size_of m bases cells rows marks path
-    unfolding size_of
-    size_some t =
+    pub tests_passed : (leb size 65536 && leb size marks && leb steps path && all) ≡ true → Settleable m bases cells rows marks path × (size ≡ box (counts_of m))
+    tests_passed t =
         let (x, d) = and_true (leb size 65536 && leb size marks && leb steps path) all t in
         let (y, c) = and_true (leb size 65536 && leb size marks) _ x in
         let (a, b) = and_true (leb size 65536) _ y in
-        let e : size ≡ box (counts_of m) = omega (arith, leb-true size 65536 a, box_of-full m full) in
-        rw (settleable_is.1 (record {
-          full = full;
-          limit = omega (arith, leb-true size 65536 a);
-          fits = omega (arith, leb-true size marks b);
-          way = omega (arith, leb-true steps path c, events_of-full m full);
-          there = sym is_all ∙ d;
-        }))
-        e
+        let e : size ≡ box (counts_of m) = omega (arith, leb-true size 65536 a, box_of-full m full) in (
+          record {
+            full = full;
+            limit = omega (arith, leb-true size 65536 a);
+            fits = omega (arith, leb-true size marks b);
+            way = omega (arith, leb-true steps path c, events_of-full m full);
+            there = sym is_all ∙ d;
+          },
+          e,
+        )
 
-    pub size_failed : (leb size 65536 && leb size marks && leb steps path && all) ≡ false → 0 ≡ size_of m bases cells rows marks path
-    size_failed t = size_none no
+    pub tests_failed : (leb size 65536 && leb size marks && leb steps path && all) ≡ false → settleable m bases cells rows marks path ≡ false
+    tests_failed t = refuted _ (λ s. no (settleable_is.0 s))
       where
         no : Settleable m bases cells rows marks path → ⊥
         no f =
@@ -121,31 +130,17 @@ module _ (m : Cut) (bases : List ℕ) (cells rows marks path : ℕ) where
             (sym t
             ∙ and_both (and_both (and_both (le-leb size 65536 (omega (arith, f.limit))) (le-leb size marks (omega (arith, f.fits)))) (le-leb steps path (omega (arith, f.way, events_of-full m full)))) (is_all ∙ f.there))
 
-  -- what a size says
-  pub size_zero : (size : ℕ) → size ≡ size_of m bases cells rows marks path → size < 1 → settleable m bases cells rows marks path ≡ false
-  unfolding size_of
-  size_zero size e h = go (settleable m bases cells rows marks path) refl
-    where
-      go : (b : Bool) → settleable m bases cells rows marks path ≡ b → settleable m bases cells rows marks path ≡ false
-      go true t = absurd (let z : size ≡ box (counts_of m) = e ∙ rw t refl in omega (arith, box_pos (counts_of m)))
-      go false t = t
+  -- .. and a box without a cut cannot be settled
+  pub no_box : (size : ℕ) → size ≡ box_of m → size < 1 → settleable m bases cells rows marks path ≡ false
+  no_box size e h = refuted _ (λ s. let f = settleable_is.0 s in absurd (omega (arith, box_of-full m f.full, box_pos (counts_of m))))
 
-  pub size_box : (size : ℕ) → size ≡ size_of m bases cells rows marks path → 1 ≤ size → Settleable m bases cells rows marks path × (size ≡ box (counts_of m))
-  unfolding size_of
-  size_box size e h = go (settleable m bases cells rows marks path) refl
-    where
-      go : (b : Bool) → settleable m bases cells rows marks path ≡ b → Settleable m bases cells rows marks path × (size ≡ box (counts_of m))
-      go true t = (settleable_is.0 t, e ∙ rw t refl)
-      go false t = absurd (let z : size ≡ 0 = e ∙ rw t refl in omega arith)
-
-module _ (m : Cut) (bases : List ℕ) (least most : ℕ) (needs weights marks path : List ℕ) where
+module _ (task : Task) where
   -- a box that can be settled has all that its rows are filled from
-  pub ready_of : Settleable m bases (length needs) (length weights) (length marks) (length path) → length m.counts ≡ 8 → length bases ≡ 8
-      → Ready (task_of m bases least most) needs weights (length marks)
-  ready_of f l k = record {
+  pub ready_of : (marks path : ℕ) → Settleable task.full task.bases (length task.needs.now) (length task.weights.now) marks path
+      → length task.full.counts ≡ 8 → length task.bases ≡ 8 → Ready task
+  ready_of marks path f l k = record {
     full = f.full;
     limit = f.limit;
-    fits = f.fits;
     rows = record {
       some = f.full.some_station;
       most = f.full.most_eight;
@@ -156,40 +151,60 @@ module _ (m : Cut) (bases : List ℕ) (least most : ℕ) (needs weights marks pa
     };
   }
     where
-      row : (p : ℕ) → p < m.n → row_there (length needs) (length weights) (at bases p + at m.counts p) ≡ true
-      row p h = every_true m.n (λ p. row_there (length needs) (length weights) (at bases p + at m.counts p)) f.there p h
+      row : (p : ℕ) → p < task.full.n → row_there (length task.needs.now) (length task.weights.now) (at task.bases p + at task.full.counts p) ≡ true
+      row p h = every_true task.full.n (λ p. row_there (length task.needs.now) (length task.weights.now) (at task.bases p + at task.full.counts p)) f.there p h
 
-  -- what is promised where the box cannot be settled
-  pub settles_none : settleable m bases (length needs) (length weights) (length marks) (length path) ≡ false
-      → Settles m bases least most needs weights marks path (no_witness false m.n false) marks path
-  settles_none e = record { reply = rw e refl; marks_after = rw e refl; path_after = rw e refl }
+  module _ (marks path : List ℕ) where
+    -- what is promised where the box can be settled, by the frame of the task
+    module _ (of : Task) (same : of ≡ task) (can : can_settle task (length marks) (length path) ≡ true) (size : ℕ) (sized : size ≡ box (counts_of of.full)) where
+      pub rooms_suffice : (size ≤ length marks) × (total (counts_of of.full) ≤ length path)
+      rooms_suffice =
+          let f = (settleable_is task.full task.bases _ _ _ _).0 can in
+          let e : size ≡ box (counts_of task.full) = rw same at sized in
+          rw same (omega (arith, f.fits), f.way)
 
-  -- .. and where it can
-  pub settles_some : Settleable m bases (length needs) (length weights) (length marks) (length path) → (r : Settled) (def : Bool) (marks' path' : List ℕ) (size : ℕ) → size ≡ box (counts_of m)
-      → marks' ≡ marks_to (task_of m bases least most) needs weights size ++ drop size marks
-      → def ≡ not (avoided m marks') → path' ≡ walked m marks' path → r ≡ settled_of m.n (witness_of m marks') def
-      → Settles m bases least most needs weights marks path r marks' path'
-  unfolding filled marks_to
-  settles_some f r def marks' path' size es em ed ep er =
-      let e = (settleable_is m bases _ _ _ _).1 f in
-      let a : marks' ≡ filled m bases least most needs weights marks = rw es at em in
-      record {
-        reply = rw (e, ← a, ← ed) er;
-        marks_after = rw e a;
-        path_after = rw (e, ← a) ep;
-      }
+      -- the verdicts and the path are those of the marks of the box
+      pub settles_some : (r : Verdicts) (marks' path' : List ℕ) → marks' ≡ marks_to of size ++ drop size marks
+          → r ≡ settled_of of.full.n (witness_of of.full (marks_to of size)) (not (avoided of.full (marks_to of size)))
+          → path' ≡ walked of.full (marks_to of size) path
+          → Settles task marks path (Some r) marks' path'
+      unfolding filled marks_to
+      settles_some r marks' path' em er ep =
+          let e : size ≡ box (counts_of task.full) = rw same at sized in
+          let whole : length (marks_to task size) ≡ box (counts_of task.full) = length_tabled _ _ _ ∙ e in
+          let a : marks_to task size ++ drop size marks ≡ filled task.full task.bases task.least task.most task.needs.now task.weights.now marks = rw e refl in
+          let f = front task.full (marks_to task size) (drop size marks) whole in
+          record {
+            reply = rw (can, ← a, f.0, f.1.0) (ap Some (rw same at er));
+            marks_after = rw (can, ← a) (rw same at em);
+            path_after = rw (can, ← a, f.1.1 path) (rw same at ep);
+          }
 
--- what is answered where no rank of the box is marked 1
-pub witness_none : (m : Cut) (marks : List ℕ) (def : Bool) → box (counts_of m) ≤ first (λ r. eqb (at marks r) 1) (box (counts_of m))
-    → no_witness true m.n def ≡ settled_of m.n (witness_of m marks) def
-unfolding witness_of
-witness_none m marks def h = rw (le-ltb _ _ h) refl
+-- the witness of marks whose first 1 is at that place
+pub witness_none : (m : Cut) (marks : List ℕ) → place_of (box (counts_of m)) (first (λ r. eqb (at marks r) 1) (box (counts_of m))) ≡ None
+    → None ≡ witness_in m.n (witness_of m marks)
+unfolding witness_of place_of
+witness_none m marks = go (ltb (first (λ r. eqb (at marks r) 1) (box (counts_of m))) (box (counts_of m)))
+  where
+    go : (b : Bool) → cond b (Some (first (λ r. eqb (at marks r) 1) (box (counts_of m)))) None ≡ None
+        → None ≡ witness_in m.n (cond b (math.some (unrank (counts_of m) (first (λ r. eqb (at marks r) 1) (box (counts_of m))))) math.none)
+    go true e = cc
+    go false e = refl
 
--- .. and where one is
-pub witness_some : (m : Cut) (marks : List ℕ) (def : Bool) (r : ℕ) → r ≡ first (λ r. eqb (at marks r) 1) (box (counts_of m)) → r < box (counts_of m)
-    → ◌≡◌ {A = Settled} (record { done = true; poss = true; witness = cut_of_counts m.n (unrank (counts_of m) r); def = def }) (settled_of m.n (witness_of m marks) def)
-unfolding witness_of
-witness_some m marks def r e l = sym (rw (← e, lt-ltb _ _ l) refl)
+pub witness_some : (m : Cut) (marks : List ℕ) (r : ℕ) → place_of (box (counts_of m)) (first (λ r. eqb (at marks r) 1) (box (counts_of m))) ≡ Some r
+    → (r < box (counts_of m)) × (Some (cut_of_counts m.n (unrank (counts_of m) r)) ≡ witness_in m.n (witness_of m marks))
+unfolding witness_of place_of
+witness_some m marks r = go (ltb place (box (counts_of m))) refl
+  where
+    place : ℕ
+    place = first (λ r. eqb (at marks r) 1) (box (counts_of m))
+
+    go : (b : Bool) → ltb place (box (counts_of m)) ≡ b → cond b (Some place) None ≡ Some r
+        → (r < box (counts_of m)) × (Some (cut_of_counts m.n (unrank (counts_of m) r)) ≡ witness_in m.n (cond b (math.some (unrank (counts_of m) place)) math.none))
+    go true t e =
+        let same : place ≡ r = cc in
+        rw (← same) (ltb-true _ _ t, refl)
+    go false t e = cc
 
 -- what is answered where the full cut, of rank r, is not marked 3: the room stays as it was
 pub walked_none : (m : Cut) (marks room : List ℕ) (r : ℕ) → rank (counts_of m) (counts_of m) ≡ r → (at marks r ≡ 3 → ⊥)

@@ -3,30 +3,33 @@
 use mathlib.Core.Path.{◌≡◌, refl, sym, ap, ◌∙◌}
 use mathlib.Core.Bool.{Bool, true, false, cond}
 use mathlib.Core.Option.{Option, none, some}
-use mathlib.Core.List.{List, ◌∷◌, ◌++◌, map, reverse}
+use Rattle.std.specs.Prelude as Rust
+use mathlib.Core.List.{List, ◌++◌, map, reverse}
 use Prim.Native.Nat.{ℕ, zero, suc, ◌≤◌, ◌<◌}
 use native.Mathlib.Omega.{arith}
 use lib.Dec.{ltb, eqb}
 use lib.ListN.{length, drop, length-reverse, get_or-append}
 use Rattle.cuts.specs.Below.{first}
-use Rattle.cuts.specs.Cut.{at, back, total, Within}
+use Rattle.cuts.specs.Cut.{at, total, Within}
 use Rattle.cuts.specs.Rank.{box, rank, unrank}
 use Rattle.cuts.specs.Verdict.{Lattice}
-use Rattle.cuts.specs.Computed.{leads, mark_of, tabled, table, looked, walk, poss_of, def_of}
+use Rattle.cuts.specs.Computed.{mark_of, tabled, table, looked, walk, poss_of, def_of}
 use Rattle.cut.specs.Value.{counts_of}
 use Rattle.cut.specs.declared.Cut.{Cut}
-use Rattle.cuts.proofs.CutLaws.{within_back, within_full}
+use Rattle.cuts.proofs.CutLaws.{within_full}
 use Rattle.cuts.proofs.RankLaws.{rank_lt, unrank_within}
 use Rattle.cuts.proofs.TabledRight.{length_tabled}
 use Rattle.cuts.proofs.ReplyLaws.{replies_equal}
-use Rattle.marks.specs.declared.Settled.{Settled}
+use Rattle.marks.specs.declared.Task.{Task}
+use Rattle.marks.specs.declared.Verdicts.{Verdicts}
 use Rattle.marks.specs.Flat.{plain, witness_of, avoided, walked, Settles}
 use Rattle.marks.proofs.SearchLaws.{first_same}
+use Rattle.marks.proofs.WalkLaws.{walk_same}
 
 -- the promise permits one reply, and one content of each room
-pub settle_unique : (m : Cut) (bases : List ℕ) (least most : ℕ) (needs weights room path : List ℕ) (r r' : Settled) (a b a' b' : List ℕ)
-    → Settles m bases least most needs weights room path r a b → Settles m bases least most needs weights room path r' a' b' → (r ≡ r') × (a ≡ a') × (b ≡ b')
-settle_unique m bases least most needs weights room path r r' a b a' b' s t =
+pub settle_unique : (task : Task) (room path : List ℕ) (r r' : Rust.Option Verdicts) (a b a' b' : List ℕ)
+    → Settles task room path r a b → Settles task room path r' a' b' → (r ≡ r') × (a ≡ a') × (b ≡ b')
+settle_unique task room path r r' a b a' b' s t =
     (replies_equal s.reply t.reply, replies_equal s.marks_after t.marks_after, replies_equal s.path_after t.path_after)
 
 -- two lattices with the same counts whose tests agree on every cut
@@ -62,17 +65,6 @@ def_in k table = cond (eqb (at table (rank k k)) 3) (some (reverse (walk (plain 
 poss_of-in : (L : Lattice) → poss_of L ≡ poss_in L.counts (table L)
 unfolding poss_of
 poss_of-in L = refl
-
--- a walk sees the counts and the marks of cuts alone
-walk_same : (L K : Lattice) → L.counts ≡ K.counts → (f g : List ℕ → ℕ) → ((c : List ℕ) → Within L.counts c → f c ≡ g c)
-    → (k : ℕ) (c : List ℕ) → Within L.counts c → walk L f k c ≡ walk K g k c
-unfolding walk
-walk_same L K e f g h zero c w = refl
-walk_same L K e f g h (suc k) c w =
-    let p = first (leads c (λ p. f (back p c))) (length L.counts) in
-    let same : p ≡ first (leads c (λ p. g (back p c))) (length K.counts) =
-    rw (← e) (first_same _ _ (length L.counts) (λ q l. rw (h (back q c) (within_back L.counts c q w)) refl)) in
-    rw (← same) (ap (λ (r : List ℕ). p ∷ r) (walk_same L K e f g h k (back p c) (within_back L.counts c p w)))
 
 def_of-in : (L : Lattice) → def_of L ≡ def_in L.counts (table L)
 unfolding def_of

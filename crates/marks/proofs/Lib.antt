@@ -1,4 +1,5 @@
 pub mod SearchLaws
+pub mod WalkLaws
 pub mod FlatLaws
 pub mod RowLaws
 pub mod BackLaws

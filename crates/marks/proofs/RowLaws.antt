@@ -3,11 +3,11 @@
 use mathlib.Core.Path.{◌≡◌, refl, sym, ap, ◌∙◌}
 use mathlib.Core.List.{List, [], ◌∷◌, ◌++◌, append_assoc, append-nil}
 use Prim.Native.Nat.{ℕ, zero, suc, ◌+◌, ◌-◌, ◌*◌, ◌/◌, ◌%◌, ◌≤◌, ◌<◌}
-use native.Mathlib.Nat.{not-suc-le-zero, le_of_suc-le-suc, zero-lt-suc, div-one, div-div-eq-div-mul, mul-add-mod_self_left, mul-add-div, mod-eq_of_lt, div-eq_of_lt, mul-le-mul_left, mod-lt, div-add-mod}
+use native.Mathlib.Nat.{mul-div_cancel_left, not-suc-le-zero, le_of_suc-le-suc, zero-lt-suc, div-one, div-div-eq-div-mul, mul-add-mod_self_left, mul-add-div, mod-eq_of_lt, div-eq_of_lt, mul-le-mul_left, mod-lt, div-add-mod}
 use native.Mathlib.Decide.{dec_lt}
 use native.Mathlib.Numerals.{add-one}
 use native.Mathlib.Omega.{arith}
-use lib.ListN.{length, take, drop, set, replicate, take-append-drop, length-append, length-drop, length-set, length-replicate, get_or-replicate, replicate-append-replicate, get_or-append, get_or-eq_default}
+use lib.ListN.{length, take, drop, set, replicate, take-append-drop, length-append, length-drop, length-set, length-replicate, get_or-replicate, replicate-append-replicate, get_or-eq_default}
 use lib.Seq.{length-take-le, drop_at, drop-set-lt, drop-append-add, drop-drop, get_or-append-add, get_or-drop, set-get_or}
 use Rattle.cuts.specs.Below.{tab}
 use Rattle.cuts.specs.Cut.{at}
@@ -49,10 +49,6 @@ blank_more l first x h =
     h
     ∙ rw (e, replicate_more x 0, ← append_assoc (take first l) (replicate x 0) (0 ∷ [])) refl
 
--- .. and so at the front
-pub zeros_more : (l : List ℕ) (x : ℕ) → x < length l → set (replicate x 0 ++ drop x l) x 0 ≡ replicate (x + 1) 0 ++ drop (x + 1) l
-zeros_more l x h = front_more (replicate x 0) l x 0 0 (length-replicate x 0) h ∙ rw (replicate_more x 0) refl
-
 -- zeros that are there already
 pub blank_there : (l : List ℕ) (first x : ℕ) → first + x ≤ length l → BlankFrom l first x → l ≡ (take first l ++ replicate x 0) ++ drop (first + x) l
 blank_there l first zero h z = blank_none l first
@@ -62,15 +58,12 @@ blank_there l first (suc x) h z =
     sym same ∙ ap (λ (d : List ℕ). set d (first + x) 0) before ∙ blank_more l first x (omega arith) ∙ rw (add-one x) refl
 
 -- the zeros of a box, behind the marks xs of its first ranks
-pub blank_rest : (xs d marks : List ℕ) (size first width : ℕ) → length xs ≡ first → first + width ≤ size → d ≡ replicate size 0 ++ drop size marks
-    → BlankFrom (xs ++ drop first d) first width
-blank_rest xs d marks size first width e h b x l =
-    ap (λ (k : ℕ). at (xs ++ drop first d) (k + x)) (sym e)
-    ∙ get_or-append-add xs (drop first d) x 0
-    ∙ get_or-drop first d x 0
-    ∙ rw b
-    (get_or-append (replicate size 0) (drop size marks) 0 (first + x) (omega (arith, length-replicate {A = ℕ} size 0))
-    ∙ get_or-replicate size (first + x) 0 0 (omega arith))
+pub blank_rest : (xs : List ℕ) (size first width : ℕ) → length xs ≡ first → first + width ≤ size → BlankFrom (xs ++ drop first (replicate size 0)) first width
+blank_rest xs size first width e h x l =
+    ap (λ (k : ℕ). at (xs ++ drop first (replicate size 0)) (k + x)) (sym e)
+    ∙ get_or-append-add xs (drop first (replicate size 0)) x 0
+    ∙ get_or-drop first (replicate size 0) x 0
+    ∙ get_or-replicate size (first + x) 0 0 (omega arith)
 
 pub length_unrank : (m : List ℕ) (r : ℕ) → length (unrank m r) ≡ length m
 unfolding unrank
@@ -122,6 +115,14 @@ top_more events room counts j i left w eight l e f laid = (
   rw (e, f) (digits_left events j i),
   rw (e, f, ← digit_at-more events j i, laid) (tab_more (i + 1) (digit_at events j) room (omega arith)),
 )
+
+-- .. at place p, behind place i
+pub top_next : (events room counts : List ℕ) (j i p left w : ℕ) → p ≡ i + 1 → length room ≡ 8 → p < 8 → left ≡ j / weight (drop 1 events) i → w ≡ at events p
+    → counts ≡ tab p (digit_at events j) ++ drop p room
+    → (left / (w + 1) ≡ j / weight (drop 1 events) (p + 1 - 1)) × (set counts p (left % (w + 1)) ≡ tab (p + 1) (digit_at events j) ++ drop (p + 1) room)
+top_next events room counts j i p left w behind eight l e f laid =
+    let d : p + 1 - 1 ≡ i + 1 = omega arith in
+    rw (d, behind) (top_more events room counts j i left w eight (omega arith) e (rw behind at f) (rw behind at laid))
 
 drop_replicate : (n k a : ℕ) → drop n (replicate k a) ≡ replicate (k - n) a
 drop_replicate zero k a =
@@ -255,17 +256,15 @@ module _ (m : Cut) (full : FullCut m) (eight : length m.counts ≡ 8) where
       let s : r ≡ suc (at m.counts 0) * j = f ∙ ap (λ (k : ℕ). k * j) (omega arith) in
       rw s (row_at-is j (rw s at h))
 
--- the first row, and the next: where they begin, and that they lie within the size of the box
-pub row_none : (size w : ℕ) → (0 ≤ size) × (0 ≤ 0) × (0 ≡ w * 0)
-row_none size w = (omega arith, omega arith, omega arith)
+  -- the box is whole rows
+  pub rows_whole : box (counts_of m) / (at m.counts 0 + 1) * (at m.counts 0 + 1) ≡ box (counts_of m)
+  rows_whole =
+      let k = at m.counts 0 in
+      let b = box (drop 1 (counts_of m)) in
+      let size : box (counts_of m) ≡ (k + 1) * b = ap box counts_of-cons ∙ box_cons k (drop 1 (counts_of m)) ∙ omega arith in
+      let rows : (k + 1) * b / (k + 1) ≡ b = mul-div_cancel_left b (omega arith) in
+      rw (size, rows) (omega arith)
 
-pub row_next : (w k j r b size : ℕ) → w ≡ k → r + k < b → size ≡ b → j ≤ r → r ≡ (w + 1) * j
-    → (r + (w + 1) ≤ size) × (j + 1 ≤ r + (w + 1)) × (r + (w + 1) ≡ (w + 1) * (j + 1))
-row_next w k j r b size e l s h f = (omega arith, omega arith, omega arith)
-
--- .. so that fewer ranks are left, and the numbers stay small
-pub row_less : (w r size : ℕ) → r < size → size - (r + (w + 1)) < size - r
-row_less w r size h = omega arith
-
-pub row_small : (w j r b size : ℕ) → w < 65536 → j ≤ r → r < size → size ≡ b → b ≤ 65536 → (j + 1 < 131073) × (r + (w + 1) < 131073)
-row_small w j r b size k h l s g = (omega arith, omega arith)
+-- a row of k + 1 ranks whose number is below that of the whole rows lies in the box
+pub rows_inside : (j k size : ℕ) → j < size / (k + 1) → j * (k + 1) + (k + 1) ≤ size
+rows_inside j k size h = omega (arith, mul-le-mul_left (k + 1) h, div-add-mod size (k + 1))

@@ -1,21 +1,26 @@
 -- Laws of tests, searches and lists that the loops of this crate end by. In order: two tests that agree; every and sums, the first
 -- apart; first and any; the largest; steps back on eight counts. Assumes nothing.
 use mathlib.Core.Path.{◌≡◌, refl, sym, ap, ap₂, ◌∙◌}
+use Rattle.std.specs.Prelude.{Some, None}
 use mathlib.Core.Bool.{Bool, true, false, ◌&&◌, cond, false≢true}
 use mathlib.Core.Logic.{⊎_elim}
 use mathlib.Core.List.{List, [], ◌∷◌}
-use Prim.Native.Nat.{ℕ, zero, suc, ◌+◌, ◌-◌, ◌≤◌, ◌<◌, max}
-use native.Mathlib.Nat.{not-suc-le-zero, le_of_suc-le-suc, le_antisymm}
+use Prim.Native.Nat.{ℕ, zero, suc, ◌+◌, ◌-◌, ◌*◌, ◌≤◌, ◌<◌, max}
+use native.Mathlib.Nat.{not-suc-le-zero, le_antisymm}
 use native.Mathlib.Decide.{dec_lt}
 use native.Mathlib.Numerals.{add-one}
 use native.Mathlib.Omega.{arith}
 use lib.Dec.{leb, ltb, eqb}
-use lib.ListN.{length, take}
-use borrow.Author.Tests.{leb-true, le-leb}
+use lib.ListN.{length, take, drop, length-drop}
+use lib.Seq.{get_or-take, get_or-drop, length-take-le}
+use borrow.Author.Tests.{lt-ltb, le-ltb, leb-true, le-leb}
 use Rattle.cuts.specs.Below.{every, first_from, first, any, sum_to}
 use Rattle.cuts.specs.Cut.{at, back}
 use Rattle.cuts.proofs.BelowLaws.{and_true, last_or_below, sum_to-first, sum_to-same, every_true, true_every, every_false, first_is, first_le}
-use Rattle.marks.specs.Rows.{most_to, NoneTo, NoneFrom}
+use Rattle.cuts.proofs.ReplyLaws.{refuted}
+use Rattle.std.specs.List.{list_any}
+use Rattle.std.proofs.lemmas.List.Folds.{list_any_at}
+use Rattle.marks.specs.Rows.{most_to, place_of, NoneTo}
 
 -- two tests each of which follows from the other
 pub tests_same : (a b : Bool) → (a ≡ true → b ≡ true) → (b ≡ true → a ≡ true) → a ≡ b
@@ -25,11 +30,6 @@ tests_same false false h g = refl
 
 pub and_both : {a b : Bool} → a ≡ true → b ≡ true → (a && b) ≡ true
 and_both h g = rw (h, g) refl
-
--- one test more
-pub every_next : (n : ℕ) (f : ℕ → Bool) (a b : Bool) → a ≡ every n f → b ≡ f n → (a && b) ≡ every (n + 1) f
-unfolding every
-every_next n f a b h e = rw (add-one n, h, e) refl
 
 -- the last test passed, the last test failed, and no test
 pub every_last : (n : ℕ) (f : ℕ → Bool) → 0 < n → f (n - 1) ≡ true → every n f ≡ every (n - 1) f
@@ -82,15 +82,32 @@ first_none f n h = go (dec_lt (first f n) n)
     go (yes k) = absurd (false≢true (sym (h (first f n) k) ∙ (first_is f n).passes k))
     go (no k) = le_antisymm (first_is f n).high (omega arith)
 
--- a piece without a 1 behind ranks without one
-pub none_joined : (marks : List ℕ) (r k : ℕ) → NoneTo marks r → NoneFrom marks r k → NoneTo marks (r + k)
-none_joined marks r k h g x l = go (dec_lt x r)
+-- the first place of n, where none was found and where one was
+pub place_none : (f : ℕ → Bool) (n : ℕ) → ((q : ℕ) → q < n → f q ≡ false) → None ≡ place_of n (first f n)
+unfolding place_of
+place_none f n h = sym (rw (first_none f n h, le-ltb n n (omega arith)) refl)
+
+pub place_some : (f : ℕ → Bool) (n p : ℕ) → p < n → ((q : ℕ) → q < p → f q ≡ false) → f p ≡ true → Some p ≡ place_of n (first f n)
+unfolding place_of
+place_some f n p l h e = sym (rw (first_found f n p l h e, lt-ltb p n l) refl)
+
+-- a piece of 256 without a 1 behind pieces without one
+pub none_joined : (marks : List ℕ) (i : ℕ) → 256 * i + 256 ≤ length marks → NoneTo marks (256 * i)
+    → list_any (λ y. eqb y 1) (take (256 * i + 256 - 256 * i) (drop (256 * i) marks)) ≡ false → NoneTo marks (256 * (i + 1))
+none_joined marks i h before none x l = go (dec_lt x (256 * i))
   where
-    go : Dec (x < r) → eqb (at marks x) 1 ≡ false
-    go (yes a) = h x a
+    piece : List ℕ
+    piece = take 256 (drop (256 * i) marks)
+
+    go : Dec (x < 256 * i) → eqb (at marks x) 1 ≡ false
+    go (yes a) = before x a
     go (no a) =
-        let e : r + (x - r) ≡ x = omega arith in
-        rw e at (g (x - r) (omega arith))
+        let y : ℕ = x - 256 * i in
+        let e : 256 * i + y ≡ x = omega arith in
+        let s : 256 * i + 256 - 256 * i ≡ 256 = omega arith in
+        let here : y < length piece = omega (arith, length-take-le 256 (drop (256 * i) marks) (omega (arith, length-drop (256 * i) marks))) in
+        let other : eqb (at piece y) 1 ≡ false = refuted _ (λ t. false≢true (sym (rw s at none) ∙ list_any_at (λ y. eqb y 1) piece y 0 here t)) in
+        rw (get_or-take 256 (drop (256 * i) marks) y 0 (omega arith), get_or-drop (256 * i) marks y 0, e) at other
 
 first_from-same : (f g : ℕ → Bool) (n p : ℕ) → ((q : ℕ) → q < p + n → f q ≡ g q) → first_from f n p ≡ first_from g n p
 unfolding first_from
@@ -125,12 +142,6 @@ leb-most_to n f x =
 pub most_to-more : (n : ℕ) (f : ℕ → ℕ) → most_to (n + 1) f ≡ max (most_to n f) (f n)
 unfolding most_to
 most_to-more n f = rw (add-one n) refl
-
--- a step back at a place beyond the counts changes nothing
-pub back_beyond : (p : ℕ) (c : List ℕ) → length c ≤ p → back p c ≡ c
-back_beyond p [] h = refl
-back_beyond zero (x ∷ c) h = absurd (not-suc-le-zero h)
-back_beyond (suc p) (x ∷ c) h = ap {B = List ℕ} (λ r. x ∷ r) (back_beyond p c (le_of_suc-le-suc h))
 
 -- the first n counts after a step back
 pub take_back : (n p : ℕ) (c : List ℕ) → take n (back p c) ≡ back p (take n c)

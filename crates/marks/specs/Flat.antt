@@ -1,9 +1,9 @@
--- The marks of a box from flat tables, and what is read off them. A recording is handed in as its full cut m. For the station at place p and its event e
+-- The marks of a box from flat tables, and what is read off them. A task hands in a recording as its full cut m. For the station at place p and its event e
 -- (0 to m_p) row `bases p + e` of the tables has eight numbers of `needs`, how many events of each station have to be there, and one of `weights`, what
 -- the station adds to the sum that decides the condition.
 -- In order: the lattice that the tables describe, and its marks; when a box can be settled; the witness; the path; what is settled.
-use Rattle.std.specs.Prelude.{◌≡◌, Bool, true, false, ◌&&◌, not, cond, List, [], ◌++◌, map, reverse, ℕ, suc, ◌+◌, ◌*◌, length, drop, leb, ltb, eqb}
-use Rattle.std.proofs.Math.Option.{Option, none, some}
+use Rattle.std.specs.Prelude.{◌≡◌, Bool, true, false, ◌&&◌, not, cond, List, ◌++◌, map, reverse, ℕ, suc, ◌+◌, ◌*◌, length, drop, leb, ltb, eqb, Option, Some, None}
+use Rattle.std.proofs.Math.Option as math
 use Rattle.cuts.specs.Below.{every, first, sum_to, tab}
 use Rattle.cuts.specs.Cut.{at, total}
 use Rattle.cuts.specs.Rank.{box, rank, unrank}
@@ -11,7 +11,8 @@ use Rattle.cuts.specs.Verdict.{Lattice}
 use Rattle.cuts.specs.Computed.{table, walk}
 use Rattle.cut.specs.Value.{is_full, counts_of}
 use Rattle.cut.specs.declared.Cut.{Cut}
-use Rattle.marks.specs.declared.Settled.{Settled}
+use Rattle.marks.specs.declared.Task.{Task}
+use Rattle.marks.specs.declared.Verdicts.{Verdicts}
 
 -- the n numbers of `needs` from place `from` on are no more than the counts of c
 unfoldable pub row_met : ℕ → List ℕ → ℕ → List ℕ → Bool
@@ -56,21 +57,21 @@ plain k = record { counts = k; consistent = λ c. true; holds = λ c. false }
 abbrev pub cut_of_counts : ℕ → List ℕ → Cut
 cut_of_counts n c = record { counts = tab 8 (at c); n = n }
 
--- the reply without a witness: Poss is no, and the start
-abbrev pub no_witness : Bool → ℕ → Bool → Settled
-no_witness done n def = record { done = done; poss = false; witness = cut_of_counts n []; def = def }
+-- the witness as a cut of n stations, if there is one
+abbrev pub witness_in : ℕ → math.Option (List ℕ) → Option Cut
+witness_in n math.none = None
+witness_in n (math.some c) = Some (cut_of_counts n c)
 
--- the reply by the witness, if there is one, and Def
-abbrev pub settled_of : ℕ → Option (List ℕ) → Bool → Settled
-settled_of n none def = no_witness true n def
-settled_of n (some c) def = record { done = true; poss = true; witness = cut_of_counts n c; def = def }
+-- the verdicts by the witness, if there is one, and Def
+abbrev pub settled_of : ℕ → math.Option (List ℕ) → Bool → Verdicts
+settled_of n w def = record { witness = witness_in n w; def = def }
 
 -- the cut of the first rank of the box that is marked 1
-unfoldable pub witness_of : Cut → List ℕ → Option (List ℕ)
+unfoldable pub witness_of : Cut → List ℕ → math.Option (List ℕ)
 witness_of m marks =
     let b = box (counts_of m) in
     let r = first (λ r. eqb (at marks r) 1) b in
-    cond (ltb r b) (some (unrank (counts_of m) r)) none
+    cond (ltb r b) (math.some (unrank (counts_of m) r)) math.none
 
 -- the full cut is marked 3
 unfoldable pub avoided : Cut → List ℕ → Bool
@@ -82,16 +83,20 @@ walked m marks room =
     let k = counts_of m in
     cond (avoided m marks) (map suc (reverse (walk (plain k) (λ c. at marks (rank k c)) (total k) k)) ++ drop (total k) room) room
 
-module _ (m : Cut) (bases : List ℕ) (least most : ℕ) (needs weights marks path : List ℕ) where
-  -- the box can be settled from these tables in these rooms
-  abbrev ready : Bool
-  ready = settleable m bases (length needs) (length weights) (length marks) (length path)
+module _ (task : Task) where
+  -- the box of the task can be settled in rooms of so many bytes
+  abbrev pub can_settle : ℕ → ℕ → Bool
+  can_settle = settleable task.full task.bases (length task.needs.now) (length task.weights.now)
 
-  abbrev after : List ℕ
-  after = filled m bases least most needs weights marks
+  module _ (marks path : List ℕ) where
+    abbrev ready : Bool
+    ready = can_settle (length marks) (length path)
 
-  -- the reply r and the rooms afterwards: all is read off the marks; or nothing is done, and the rooms are as before
-  pub record Settles (r : Settled) (marks' path' : List ℕ) : Type 0 where
-    pub reply : r ≡ cond ready (settled_of m.n (witness_of m after) (not (avoided m after))) (no_witness false m.n false)
-    pub marks_after : marks' ≡ cond ready after marks
-    pub path_after : path' ≡ cond ready (walked m after path) path
+    abbrev after : List ℕ
+    after = filled task.full task.bases task.least task.most task.needs.now task.weights.now marks
+
+    -- the reply r and the rooms afterwards: all is read off the marks; or nothing is done, and the rooms are as before
+    pub record Settles (r : Option Verdicts) (marks' path' : List ℕ) : Type 0 where
+      pub reply : r ≡ cond ready (Some (settled_of task.full.n (witness_of task.full after) (not (avoided task.full after)))) None
+      pub marks_after : marks' ≡ cond ready after marks
+      pub path_after : path' ≡ cond ready (walked task.full after path) path

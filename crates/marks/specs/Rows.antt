@@ -1,8 +1,8 @@
 -- What the code works with on its way through a box, row by row of station 1: the cuts of a row differ in their first count only, and follow in rank.
 -- Nothing here has to be believed: the contracts of the entries cite `Flat` alone.
--- In order: cuts and strides; a step back; the other stations of a row; the rows of the tables; what a box is filled for, and its marks so far; a row, its
--- marks and what they are worked out from; the way back; the size of the box.
-use Rattle.std.specs.Prelude.{◌≡◌, Bool, false, ◌&&◌, ◌||◌, cond, List, [], ◌∷◌, ◌++◌, map, reverse, ℕ, zero, suc, ◌+◌, ◌-◌, ◌*◌, ◌≤◌, ◌<◌, max, length, drop, set, replicate, ltb, eqb}
+-- In order: cuts and strides; a step back; the other stations of a row; the rows of the tables; the lattice of a task, its marks so far, and when it can be
+-- filled; a row and its marks; what is read off them; the way back; what the searches find.
+use Rattle.std.specs.Prelude.{◌≡◌, Bool, false, not, ◌&&◌, ◌||◌, cond, List, [], ◌∷◌, ◌++◌, map, reverse, ℕ, zero, suc, ◌+◌, ◌-◌, ◌*◌, ◌≤◌, ◌<◌, max, length, take, drop, set, replicate, ltb, eqb, Option, Some, None}
 use Rattle.cuts.specs.Below.{every, any, sum_to, tab}
 use Rattle.cuts.specs.Cut.{at}
 use Rattle.cuts.specs.Rank.{box, rank, unrank, weight}
@@ -10,13 +10,10 @@ use Rattle.cuts.specs.Verdict.{Lattice}
 use Rattle.cuts.specs.Computed.{number, tabled, mark_of, walk}
 use Rattle.cut.specs.Value.{counts_of, FullCut}
 use Rattle.cut.specs.declared.Cut.{Cut}
-use Rattle.marks.specs.declared.Frame.{Frame}
-use Rattle.marks.specs.declared.Others.{Others}
-use Rattle.marks.specs.Flat.{row_met, between, flat, settleable, plain}
-
--- n stations with these counts, as a cut
-abbrev pub cut_with : ℕ → List ℕ → Cut
-cut_with n counts = record { counts = counts; n = n }
+use Rattle.marks.specs.declared.Task.{Task}
+use Rattle.marks.specs.declared.Verdicts.{Verdicts}
+use Rattle.marks.specs.declared.frame.Others.{Others}
+use Rattle.marks.specs.Flat.{row_met, between, flat, plain, settled_of, witness_of, avoided}
 
 -- the eight counts of the cut with rank r
 unfoldable pub cut_at : Cut → ℕ → List ℕ
@@ -55,10 +52,17 @@ others_need n bases needs c = most_to (n - 1) (λ i. at needs (8 * (at bases (i 
 unfoldable pub others_add : ℕ → List ℕ → List ℕ → List ℕ → ℕ
 others_add n bases weights c = sum_to (n - 1) (λ i. at weights (at bases (i + 1) + at c (i + 1)))
 
--- what they ask and add; where they are not met they ask for more events than a station can have
-unfoldable pub others_of : ℕ → List ℕ → List ℕ → List ℕ → List ℕ → Others
-others_of n bases needs weights c =
-    cond (others_met n bases needs c) (record { low = others_need n bases needs c; sum = others_add n bases weights c }) (record { low = 65536; sum = 0 })
+-- what they ask and add; nothing where they are not met
+unfoldable pub others_of : Task → List ℕ → Option Others
+others_of task c =
+    cond (others_met task.full.n task.bases task.needs.now c)
+    (Some (record { low = others_need task.full.n task.bases task.needs.now c; sum = others_add task.full.n task.bases task.weights.now c }))
+    None
+
+-- .. in numbers: where they are not met they ask for more events than a station can have
+abbrev pub asked : Option Others → Others
+asked (Some others) = others
+asked None = record { low = 65536; sum = 0 }
 
 -- eight bases and eight counts, of n stations, and the tables have the rows of these at the cut c
 pub record RowsThere (n : ℕ) (bases needs weights c : List ℕ) : Type 0 where
@@ -69,30 +73,19 @@ pub record RowsThere (n : ℕ) (bases needs weights c : List ℕ) : Type 0 where
   pub needed : (p : ℕ) → p < n → 8 * (at bases p + at c p) + 8 ≤ length needs
   pub weighed : (p : ℕ) → p < n → at bases p + at c p < length weights
 
--- what a box is filled for: the full cut, where each station's rows begin, and from where to where a sum satisfies
-pub record Task : Type 0 where
-  pub full : Cut
-  pub bases : List ℕ
-  pub least : ℕ
-  pub most : ℕ
-
-abbrev pub task_of : Cut → List ℕ → ℕ → ℕ → Task
-task_of full bases least most = record { full = full; bases = bases; least = least; most = most }
-
 -- the lattice that the tables describe
-abbrev pub lattice_of : Task → List ℕ → List ℕ → Lattice
-lattice_of task needs weights = flat task.full task.bases task.least task.most needs weights
+abbrev pub lattice_of : Task → Lattice
+lattice_of task = flat task.full task.bases task.least task.most task.needs.now task.weights.now
 
 -- the marks of the first r ranks
-unfoldable pub marks_to : Task → List ℕ → List ℕ → ℕ → List ℕ
-marks_to task needs weights r = tabled (mark_of (lattice_of task needs weights)) (counts_of task.full) r
+unfoldable pub marks_to : Task → ℕ → List ℕ
+marks_to task r = tabled (mark_of (lattice_of task)) (counts_of task.full) r
 
 -- the box can be filled
-pub record Ready (task : Task) (needs weights : List ℕ) (room : ℕ) : Type 0 where
+pub record Ready (task : Task) : Type 0 where
   pub full : FullCut task.full
   pub limit : box (counts_of task.full) ≤ 65536
-  pub fits : box (counts_of task.full) ≤ room
-  pub rows : RowsThere task.full.n task.bases needs weights task.full.counts
+  pub rows : RowsThere task.full.n task.bases task.needs.now task.weights.now task.full.counts
 
 -- top is the last cut of a row whose first cut has rank first
 pub record RowAt (m : Cut) (top : List ℕ) (first : ℕ) : Type 0 where
@@ -101,54 +94,37 @@ pub record RowAt (m : Cut) (top : List ℕ) (first : ℕ) : Type 0 where
   pub cuts : (x : ℕ) → x ≤ at m.counts 0 → set top 0 x ≡ cut_at m (first + x)
   pub within : first + at m.counts 0 < box (counts_of m)
 
--- what the rows of a box have in common
-abbrev pub frame_of : Task → Frame
-frame_of task = record {
-  n = task.full.n;
-  width = at task.full.counts 0 + 1;
-  base = at task.bases 0;
-  least = task.least;
-  most = task.most;
-}
-
 -- the mark of the cut c, whose first count is x, of rank r, from the marks of the ranks below, where the other stations are met and add sum
-unfoldable pub cut_mark : Frame → ℕ → List ℕ → List ℕ → List ℕ → List ℕ → List ℕ → ℕ → ℕ → ℕ
-cut_mark frame sum needs weights strides marks c x r =
-    number (row_met frame.n needs (8 * (frame.base + x)) c)
-    (between frame.least frame.most (sum + at weights (frame.base + x)))
-    (eqb r 0 || any (leads_back marks c strides r) frame.n)
+unfoldable pub cut_mark : Task → ℕ → List ℕ → List ℕ → ℕ → ℕ → ℕ
+cut_mark task sum marks c x r =
+    number (row_met task.full.n task.needs.now (8 * (at task.bases 0 + x)) c)
+    (between task.least task.most (sum + at task.weights.now (at task.bases 0 + x)))
+    (eqb r 0 || any (leads_back marks c (strides_of task.full) r) task.full.n)
 
 -- the marks of the ranks below first, and of the first x cuts of the row
-unfoldable pub row_marks : Frame → Others → List ℕ → List ℕ → List ℕ → List ℕ → ℕ → List ℕ → ℕ → List ℕ
-row_marks frame others needs weights strides top first below zero = below
-row_marks frame others needs weights strides top first below (suc x) =
-    let l = row_marks frame others needs weights strides top first below x in
-    l ++ (cond (ltb x others.low) 0 (cut_mark frame others.sum needs weights strides l (set top 0 x) x (first + x)) ∷ [])
+unfoldable pub row_marks : Task → Others → List ℕ → ℕ → List ℕ → ℕ → List ℕ
+row_marks task others top first below zero = below
+row_marks task others top first below (suc x) =
+    let l = row_marks task others top first below x in
+    l ++ (cond (ltb x others.low) 0 (cut_mark task others.sum l (set top 0 x) x (first + x)) ∷ [])
 
--- the mark of the cut c, whose first count is x, of rank r, can be worked out
-pub record CutReady (frame : Frame) (needs weights strides : List ℕ) (room : ℕ) (c : List ℕ) (x r : ℕ) : Type 0 where
-  pub stations : frame.n ≤ 8
-  pub counts : frame.n ≤ length c
-  pub strided : frame.n ≤ length strides
-  pub needed : 8 * (frame.base + x) + 8 ≤ length needs
-  pub weighed : frame.base + x < length weights
-  pub back : StepsBack frame.n c strides r
-  pub fits : r < room
+-- the marks after the row from rank first on, whose last cut is top
+abbrev pub row_filled : Task → List ℕ → ℕ → List ℕ → List ℕ
+row_filled task top first marks =
+    let width = at task.full.counts 0 + 1 in
+    row_marks task (asked (others_of task top)) top first (take first marks) width ++ drop (first + width) marks
 
--- .. and so can those of the whole row
-pub record RowReady (frame : Frame) (needs weights bases strides : List ℕ) (room : ℕ) (top : List ℕ) (first : ℕ) : Type 0 where
-  pub rows : RowsThere frame.n bases needs weights top
-  pub short : frame.width ≤ 65536
-  pub inside : first + frame.width ≤ room
-  pub each : (x : ℕ) → x < frame.width → CutReady frame needs weights strides room (set top 0 x) x (first + x)
+-- the verdicts off the marks of the box of m
+abbrev pub read_off : Cut → List ℕ → Verdicts
+read_off m marks = settled_of m.n (witness_of m marks) (not (avoided m marks))
 
 -- k station numbers back from the cut c, first step first
 unfoldable pub way_to : List ℕ → List ℕ → ℕ → List ℕ → List ℕ
 way_to full marks k c = map suc (reverse (walk (plain full) (λ d. at marks (rank full d)) k c))
 
--- the size of a box that can be settled, else 0
-unfoldable pub size_of : Cut → List ℕ → ℕ → ℕ → ℕ → ℕ → ℕ
-size_of m bases cells rows marks path = cond (settleable m bases cells rows marks path) (box (counts_of m)) 0
+-- the place p below n, if it is
+unfoldable pub place_of : ℕ → ℕ → Option ℕ
+place_of n p = cond (ltb p n) (Some p) None
 
 -- so many marks from rank first on are zeros
 abbrev pub BlankFrom : List ℕ → ℕ → ℕ → Type 0
@@ -157,7 +133,3 @@ BlankFrom marks first width = (x : ℕ) → x < width → at marks (first + x) �
 -- none of the marks of the first r ranks is a 1
 abbrev pub NoneTo : List ℕ → ℕ → Type 0
 NoneTo marks r = (q : ℕ) → q < r → eqb (at marks q) 1 ≡ false
-
--- .. and of so many from rank first on
-abbrev pub NoneFrom : List ℕ → ℕ → ℕ → Type 0
-NoneFrom marks first width = (x : ℕ) → x < width → eqb (at marks (first + x)) 1 ≡ false

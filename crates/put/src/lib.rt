@@ -6,17 +6,16 @@ ghost use Rattle.std.specs.Prelude.{◌≡◌, ◌+◌, ◌*◌, ◌<◌, length
 ghost use Rattle.put.specs.Put.{with_bit, set_bit, can_hold, Put};
 
 // The k bits from bit `at` on become those of v, and true; false, and nothing is changed, where s has no such field or it cannot hold v.
+// A bool: there is one refusal, with nothing more to say of it, and the writer, which has tested its values before, has no use for either answer.
 pub fn put(s: &mut [u8], at: usize, k: usize, v: u16) -> bool
     ensures { Put s.old at k v result s.new }
 {
-    let w = v as usize;
+    let w = usize::from(v);
     if !can_hold(s.len(), at, k, w) {
         return false;
     }
-    let mut i = 0;
-    while i < k {
+    for i in 0..k {
         put_bit(s, at, i, (w >> (k - 1 - i)) % 2);
-        i += 1;
     }
     true
 }
@@ -25,13 +24,10 @@ pub fn put(s: &mut [u8], at: usize, k: usize, v: u16) -> bool
 fn can_hold(n: usize, at: usize, k: usize, w: usize) -> bool
     ensures { result ≡ can_hold n at k w }
 {
-    if k < 1 {
+    if k < 1 || 16 < k {
         return false;
     }
-    if 16 < k {
-        return false;
-    }
-    if n < at / 8 + (at % 8 + k + 7) / 8 {
+    if n < at / 8 + (at % 8 + k).div_ceil(8) {
         return false;
     }
     w >> k < 1
@@ -52,7 +48,7 @@ fn with_bit(x: u8, m: usize, b: usize) -> u8
     requires { (m < 8) × (b < 2) }
     ensures { result ≡ with_bit x m b }
 {
-    let w = x as usize;
+    let w = usize::from(x);
     let p = 1 << m;
     let y = (w / (p * 2) * 2 + b) * p + w % p;
     y as u8

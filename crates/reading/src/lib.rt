@@ -1,7 +1,7 @@
 // What the programs read their input with.
 #![tactic(auto)]
 
-ghost use Rattle.std.specs.Prelude.{ℕ, ◌<◌, ◌≤◌, length, take, IfOk, OnErr};
+ghost use Rattle.std.specs.Prelude.{◌≡◌, ℕ, ◌+◌, ◌*◌, ◌<◌, ◌≤◌, length, take, slice_index, IfOk, OnErr};
 ghost use Rattle.std.specs.Io.{ReadsAtMost};
 ghost use Rattle.std.specs.Io.KnownBytes.{Consumes, IsAtEnd};
 
@@ -15,6 +15,7 @@ pub fn read_full<R: Read>(input: &mut R, room: &mut [u8]) -> io::Result<usize>
     ensures err { OnErr result ((n : ℕ) × (n ≤ length room.new) × Consumes (R.remaining input.old) (R.remaining input.new) (take n room.new)) }
 {
     let mut filled = 0;
+    // A read gives as many bytes as it likes: there is no index to count, and `read_exact` says nothing of what an error leaves.
     while filled < room.len() {
         let n = input.read(&mut room[filled..])?;
         if n == 0 {
@@ -23,4 +24,11 @@ pub fn read_full<R: Read>(input: &mut R, room: &mut [u8]) -> io::Result<usize>
         filled += n;
     }
     Ok(filled)
+}
+
+// The length that two bytes say, high first.
+pub fn length_of(head: [u8; 2]) -> usize
+    ensures { (result ≡ slice_index head 0 * 256 + slice_index head 1) × (result ≤ 65535) }
+{
+    usize::from(u16::from_be_bytes(head))
 }

@@ -1,7 +1,7 @@
 -- The checks of the records pass exactly if the records are formed and stamped in the sense of `cuts` (`scan_is`), so an accepted recording has a
 -- possible order; and a refusal is about the first faulty record in file order (`refused_first`). Nothing else is looked at: not in what order
 -- messages were received. In order: one record's tests; all records. Assumes nothing.
-use mathlib.Core.Path.{◌≡◌, refl, ap, ◌∙◌}
+use mathlib.Core.Path.{◌≡◌, refl}
 use mathlib.Core.Bool.{Bool, true, not}
 use mathlib.Core.Logic.{◌≢◌, ◌↔◌, ◌⊎◌, inl, inr}
 use mathlib.Core.List.{List, [], ◌∷◌}
@@ -10,13 +10,19 @@ use native.Mathlib.Omega.{arith}
 use lib.ListN.{length}
 use lib.Dec.{leb, eqb}
 use borrow.Author.Tests.{leb-true, le-leb, eqb-true, eq-eqb, ne_eqb, eqb-false, not-true}
+use Rattle.std.specs.Prelude.{Ok, Err}
 use Rattle.cuts.specs.Cut.{at}
 use Rattle.cuts.specs.Trace.{Messages, Stamps, Recorded, Formed, Stamped, wanted}
 use Rattle.cuts.proofs.BelowLaws.{and_true, every_true, true_every}
-use Rattle.recording.specs.Check.{Test, test, fault_of, at_record, scan_to, origin_ok, number_ok, stamp_ok, record_tests, scan_records}
-use Rattle.recording.specs.declared.Refusal.{Refusal}
-use Rattle.recording.specs.declared.Checked.{Checked}
-use Rattle.recording.proofs.CheckLaws.{Pass, no_test, and_then, Numbered, no_number, and_number, pass_fault, fault_pass, at_record-0, at_record-accepted, scan_all, scan_accepted, scan_first}
+use Rattle.recording.specs.Check.{Test, test, fault_of, scan_to, origin_ok, number_ok, stamp_ok, record_tests, scan_records}
+use Rattle.refusal.specs.Refusal.{Tested, Checked, at_record}
+use Rattle.refusal.specs.declared.Reason.{Reason}
+use Rattle.refusal.specs.declared.Refusal.{Refusal}
+use Rattle.recording.proofs.CheckLaws.{Pass, no_test, and_then, pass_fault, fault_pass, at_record-accepted, scan_all, scan_accepted, scan_first}
+
+accepted_record : (p e : ℕ) (r : Tested) → r ≡ Ok tt → at_record p e r ≡ Ok tt
+unfolding at_record
+accepted_record p e r h = rw h refl
 
 module _ (T : Messages) where
   -- what the first two tests of a record say
@@ -49,22 +55,15 @@ module _ (T : Messages) where
       let (ne, (a, b, d)) = h.sender s refl in
       rw (le-leb 1 k b, le-leb k (at T.counts s) d) refl
 
-  numbered : (S : Stamps) (p e : ℕ) → Numbered (record_tests T S p e)
-  numbered S p e =
-      let h₅ : 0 < 5 = omega arith in
-      let h₆ : 0 < 6 = omega arith in
-      let h₇ : 0 < 7 = omega arith in
-      and_number h₅ (and_number h₆ (and_number h₇ no_number))
-
   -- the records are formed and stamped, record by record
   module _ (S : Stamps) where
     pub record Sound (p e : ℕ) : Type 0 where
       pub names : Names p (T.origin p (suc e)) (T.number p (suc e))
       pub stamped : (q : ℕ) → q < length T.counts → S p (suc e) q ≡ wanted T S (T.origin p (suc e)) p e q
 
-    fault_sound : (p e : ℕ) → fault_of (record_tests T S p e) ≡ 0 → Sound p e
+    fault_sound : (p e : ℕ) → fault_of (record_tests T S p e) ≡ Ok tt → Sound p e
     unfolding stamp_ok
-    fault_sound p e h = go (fault_pass _ (numbered S p e) h)
+    fault_sound p e h = go (fault_pass _ h)
       where
         go : Pass (record_tests T S p e) → Sound p e
         go (and_then a (and_then b (and_then d no_test))) = record {
@@ -72,24 +71,24 @@ module _ (T : Messages) where
           stamped = λ q l. eqb-true _ _ (every_true (length T.counts) (λ q. eqb (S p (suc e) q) (wanted T S (T.origin p (suc e)) p e q)) d q l);
         }
 
-    sound_fault : (p e : ℕ) → Sound p e → fault_of (record_tests T S p e) ≡ 0
+    sound_fault : (p e : ℕ) → Sound p e → fault_of (record_tests T S p e) ≡ Ok tt
     unfolding stamp_ok
     sound_fault p e h = pass_fault (and_then (names_origin p _ _ h.names) (and_then (names_number p _ _ h.names) (and_then (true_every (length T.counts) _ (λ q l. eq-eqb _ _ (h.stamped q l))) no_test)))
 
-    -- a record's tests with one more between 6 and 7, as the writer has it for the level
+    -- a record's tests with one more before its stamp's, as the writer has it for the level
     abbrev pub tests_with : Bool → ℕ → ℕ → List Test
     tests_with ok p e =
-        test 5 (origin_ok T p (T.origin p (suc e))) ∷ test 6 (number_ok T (T.origin p (suc e)) (T.number p (suc e))) ∷ test 14 ok ∷ test 7 (stamp_ok T S p e) ∷ []
+        test Reason.Origin (origin_ok T p (T.origin p (suc e)))
+        ∷ test Reason.Number (number_ok T (T.origin p (suc e)) (T.number p (suc e)))
+        ∷ test Reason.Level ok
+        ∷ test Reason.Stamp (stamp_ok T S p e)
+        ∷ []
 
     -- they pass exactly if the record is sound and that one passes
-    pub writer_sound : (p e : ℕ) (ok : Bool) → fault_of (tests_with ok p e) ≡ 0 → Sound p e × (ok ≡ true)
+    pub writer_sound : (p e : ℕ) (ok : Bool) → fault_of (tests_with ok p e) ≡ Ok tt → Sound p e × (ok ≡ true)
     unfolding stamp_ok
     writer_sound p e ok h =
-        let h₅ : 0 < 5 = omega arith in
-        let h₆ : 0 < 6 = omega arith in
-        let h₁₄ : 0 < 14 = omega arith in
-        let h₇ : 0 < 7 = omega arith in
-        go (fault_pass (tests_with ok p e) (and_number h₅ (and_number h₆ (and_number h₁₄ (and_number h₇ no_number)))) h)
+        go (fault_pass (tests_with ok p e) h)
       where
         go : Pass (tests_with ok p e) → Sound p e × (ok ≡ true)
         go (and_then a (and_then b (and_then l (and_then d no_test)))) = (
@@ -100,46 +99,46 @@ module _ (T : Messages) where
           l,
         )
 
-    pub sound_writer : (p e : ℕ) (ok : Bool) → Sound p e → ok ≡ true → fault_of (tests_with ok p e) ≡ 0
+    pub sound_writer : (p e : ℕ) (ok : Bool) → Sound p e → ok ≡ true → fault_of (tests_with ok p e) ≡ Ok tt
     unfolding stamp_ok
     sound_writer p e ok h l = pass_fault (and_then (names_origin p _ _ h.names) (and_then (names_number p _ _ h.names) (and_then l (and_then (true_every (length T.counts) _ (λ q k. eq-eqb _ _ (h.stamped q k))) no_test))))
 
     -- the scan of the records accepts exactly if every record is sound
-    pub scan_sound : scan_records T (record_tests T S) ≡ Checked.Accepted → (p e : ℕ) → p < length T.counts → e < at T.counts p → Sound p e
+    pub scan_sound : scan_records T (record_tests T S) ≡ Ok tt → (p e : ℕ) → p < length T.counts → e < at T.counts p → Sound p e
     unfolding scan_records
     scan_sound h p e hp he = fault_sound p e (at_record-accepted p e _ (scan_accepted _ (at T.counts p) (scan_accepted _ (length T.counts) h p hp) e he))
 
     -- the writer's scan accepts only sound records
-    pub writer_scan : (ok : ℕ → ℕ → Bool) → scan_records T (λ p e. tests_with (ok p e) p e) ≡ Checked.Accepted → (p e : ℕ) → p < length T.counts → e < at T.counts p → Sound p e × (ok p e ≡ true)
+    pub writer_scan : (ok : ℕ → ℕ → Bool) → scan_records T (λ p e. tests_with (ok p e) p e) ≡ Ok tt → (p e : ℕ) → p < length T.counts → e < at T.counts p → Sound p e × (ok p e ≡ true)
     unfolding scan_records
     writer_scan ok h p e hp he = writer_sound p e (ok p e) (at_record-accepted p e _ (scan_accepted _ (at T.counts p) (scan_accepted _ (length T.counts) h p hp) e he))
 
-    pub sound_scan : ((p e : ℕ) → p < length T.counts → e < at T.counts p → Sound p e) → scan_records T (record_tests T S) ≡ Checked.Accepted
+    pub sound_scan : ((p e : ℕ) → p < length T.counts → e < at T.counts p → Sound p e) → scan_records T (record_tests T S) ≡ Ok tt
     unfolding scan_records
-    sound_scan h = scan_all _ (length T.counts) (λ p hp. scan_all _ (at T.counts p) (λ e he. ap (at_record p e) (sound_fault p e (h p e hp he)) ∙ at_record-0 p e))
+    sound_scan h = scan_all _ (length T.counts) (λ p hp. scan_all _ (at T.counts p) (λ e he. accepted_record p e _ (sound_fault p e (h p e hp he))))
 
     sound_of : (p e : ℕ) → ((p e : ℕ) → p < length T.counts → e < at T.counts p → Sound p e) → Recorded T p e → Names p (T.origin p e) (T.number p e)
     sound_of p zero h (a, b, d) = absurd (omega arith)
     sound_of p (suc e) h (a, b, d) = (h p e a d).names
 
     -- accepted is formed and stamped ..
-    pub scan_formed : scan_records T (record_tests T S) ≡ Checked.Accepted → Formed T
+    pub scan_formed : scan_records T (record_tests T S) ≡ Ok tt → Formed T
     scan_formed h = record {
       local = λ p e r o. (sound_of p e (scan_sound h) r).local o;
       sender = λ p e s r o. (sound_of p e (scan_sound h) r).sender s o;
     }
 
-    pub scan_stamped : ((p q : ℕ) → S p 0 q ≡ 0) → scan_records T (record_tests T S) ≡ Checked.Accepted → Stamped T S
+    pub scan_stamped : ((p q : ℕ) → S p 0 q ≡ 0) → scan_records T (record_tests T S) ≡ Ok tt → Stamped T S
     scan_stamped z h = record { start = z; rule = λ p e q (a, b, d) hq. (scan_sound h p e a d).stamped q hq }
 
-    -- .. and formed and stamped is accepted: no 5, 6 or 7
-    pub formed_scan : Formed T → Stamped T S → scan_records T (record_tests T S) ≡ Checked.Accepted
+    -- .. and formed and stamped is accepted: no refusal for an origin, a number or a stamp
+    pub formed_scan : Formed T → Stamped T S → scan_records T (record_tests T S) ≡ Ok tt
     formed_scan f t = sound_scan (λ p e hp he. record {
       names = record { local = λ o. f.local p (suc e) (hp, omega arith, he) o; sender = λ s o. f.sender p (suc e) s (hp, omega arith, he) o };
       stamped = λ q hq. t.rule p e q (hp, omega arith, he) hq;
     })
 
-    pub scan_is : ((p q : ℕ) → S p 0 q ≡ 0) → (scan_records T (record_tests T S) ≡ Checked.Accepted) ↔ (Formed T × Stamped T S)
+    pub scan_is : ((p q : ℕ) → S p 0 q ≡ 0) → (scan_records T (record_tests T S) ≡ Ok tt) ↔ (Formed T × Stamped T S)
     scan_is z = (λ h. (scan_formed h, scan_stamped z h), λ (f, t). formed_scan f t)
 
 -- the place (p, e) comes before (q, k) in file order
@@ -147,9 +146,9 @@ abbrev pub Earlier : ℕ → ℕ → ℕ → ℕ → Type 0
 Earlier p e q k = (p < q) ⊎ ((p ≡ q) × (e < k))
 
 -- a refusal is about the first faulty record in file order, whatever the tests of a record are
-pub refused_first : (T : Messages) (tests : ℕ → ℕ → List Test) (x : Refusal) → scan_records T tests ≡ Checked.Refused x
-    → (p e : ℕ) × (p < length T.counts) × (e < at T.counts p) × (at_record p e (fault_of (tests p e)) ≡ Checked.Refused x)
-    × ((q k : ℕ) → q < length T.counts → k < at T.counts q → Earlier q k p e → fault_of (tests q k) ≡ 0)
+pub refused_first : (T : Messages) (tests : ℕ → ℕ → List Test) (x : Refusal) → scan_records T tests ≡ Err x
+    → (p e : ℕ) × (p < length T.counts) × (e < at T.counts p) × (at_record p e (fault_of (tests p e)) ≡ Err x)
+    × ((q k : ℕ) → q < length T.counts → k < at T.counts q → Earlier q k p e → fault_of (tests q k) ≡ Ok tt)
 unfolding scan_records
 refused_first T tests x h =
     let (p, hp, a, b) = scan_first _ (length T.counts) x h in
@@ -159,7 +158,7 @@ refused_first T tests x h =
     fault : ℕ → ℕ → Checked
     fault p e = at_record p e (fault_of (tests p e))
 
-    before : (p e : ℕ) → ((i : ℕ) → i < p → scan_to (at T.counts i) (fault i) ≡ Checked.Accepted) → ((i : ℕ) → i < e → fault p i ≡ Checked.Accepted)
-        → (q k : ℕ) → q < length T.counts → k < at T.counts q → Earlier q k p e → fault_of (tests q k) ≡ 0
+    before : (p e : ℕ) → ((i : ℕ) → i < p → scan_to (at T.counts i) (fault i) ≡ Ok tt) → ((i : ℕ) → i < e → fault p i ≡ Ok tt)
+        → (q k : ℕ) → q < length T.counts → k < at T.counts q → Earlier q k p e → fault_of (tests q k) ≡ Ok tt
     before p e b v q k hq hk (inl l) = at_record-accepted q k _ (scan_accepted (fault q) (at T.counts q) (b q l) k hk)
     before p e b v q k hq hk (inr (z, l)) = at_record-accepted q k _ (rw z (v k l))

@@ -1,21 +1,20 @@
 -- Laws of the recording laid out flat. In order: the counts of eight stations; the records before each station's; the start levels; the table of
 -- stamps, by a number's place and by record and station; rooms that have the tables. Assumes nothing.
-use mathlib.Core.Path.{◌≡◌, refl, sym, ap, ap₂, ◌∙◌}
+use mathlib.Core.Path.{◌≡◌, refl, ap, ap₂, ◌∙◌}
 use mathlib.Core.Bool.{Bool, true, ◌&&◌, cond}
 use mathlib.Core.List.{List, ◌++◌}
 use Prim.Native.Nat.{ℕ, zero, suc, ◌+◌, ◌-◌, ◌*◌, ◌/◌, ◌%◌, ◌≤◌, ◌<◌}
-use native.Mathlib.Nat.{add-zero, add-suc, le_antisymm}
+use native.Mathlib.Nat.{add-zero, add-suc}
 use native.Mathlib.Decide.{dec_lt, dec_le}
 use native.Mathlib.Omega.{arith}
 use lib.Dec.{leb}
-use lib.ListN.{length, take, drop}
-use lib.Seq.{ext_get_or, get_or-take, length-take-le}
+use lib.ListN.{length, drop}
 use borrow.Author.Tests.{lt-ltb, le-ltb, le-leb, leb-true}
 use Rattle.bits.specs.Bits.{field, peeked}
 use Rattle.levels.specs.Level.{excess_of}
 use Rattle.cuts.specs.Below.{sum_to, tab}
 use Rattle.cuts.specs.Cut.{at}
-use Rattle.cuts.proofs.BelowLaws.{and_true, length_tab, get_d-tab, sum_to-more, sum_to-same}
+use Rattle.cuts.proofs.BelowLaws.{and_true, get_d-tab, sum_to-more, sum_to-same}
 use Rattle.recording.specs.Form.{station_bit, record_bit, n_at, m_at, first_at, level_at, count_at}
 use Rattle.recording.specs.Decode.{events_at, records_to, start_cell, stamp_cell, level_cell, stamps_fit, stamps_in, levels_fit, levels_in}
 use Rattle.recording.proofs.PlaceLaws.{peeked_read, m_at-lt, first_at-le}
@@ -128,13 +127,3 @@ module _ (lead w : ℕ) (s room : List ℕ) (h : n_at lead s ≤ 8) (total : ℕ
   pub levels_some : total ≤ length room → tab total (level_cell lead w s (n_at lead s)) ++ drop total room ≡ levels_in lead w s room
   unfolding levels_fit levels_in
   levels_some k = rw e (front_some (n_at lead s) (first_at lead w s (n_at lead s)) (level_cell lead w s (n_at lead s)) room h (rw e at k))
-
--- the first k numbers of a list, one by one
-pub tab_at_take : (l : List ℕ) (k : ℕ) → k ≤ length l → tab k (at l) ≡ take k l
-tab_at_take l k h =
-    ext_get_or 0 (tab k (at l)) (take k l) (length_tab k (at l) ∙ sym (length-take-le k l h))
-    (λ i g. get_d-tab k (at l) 0 i (rw (length_tab k (at l)) at g) ∙ sym (get_or-take k l i 0 (rw (length_tab k (at l)) at g)))
-
--- the end of a loop that copies the first k numbers of l
-pub tab_copied : (i k : ℕ) (l d : List ℕ) → i ≤ k → k ≤ i → k ≤ length l → tab i (at l) ++ drop i d ≡ take k l ++ drop k d
-tab_copied i k l d h g m = rw (le_antisymm h g) (ap (λ (x : List ℕ). x ++ drop k d) (tab_at_take l k m))

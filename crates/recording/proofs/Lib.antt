@@ -1,9 +1,9 @@
 pub mod SumLaws
 pub mod TabledLaws
+pub mod EightLaws
 pub mod CheckLaws
 pub mod FormLaws
 pub mod CheckRight
-pub mod FaultLaws
 pub mod AcceptedRight
 pub mod PlaceLaws
 pub mod DecodeLaws

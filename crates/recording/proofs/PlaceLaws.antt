@@ -13,16 +13,16 @@ use Rattle.recording.specs.Form.{m_at, first_at}
 use Rattle.recording.proofs.SumLaws.{sum_to-grows, sum_to-part, sum_to-most}
 
 -- the parts of the first p stations
-pub stations_le : (w p : ℕ) → w ≤ 9 → p ≤ 15 → (w + 12) * p ≤ 315
-stations_le w p h k = mul-le-mul {n₁ = w + 12} {m₁ = p} {n₂ = 21} {m₂ = 15} (omega arith) k
+pub stations_le : (w p : ℕ) → w ≤ 9 → p ≤ 255 → (w + 12) * p ≤ 5355
+stations_le w p h k = mul-le-mul {n₁ = w + 12} {m₁ = p} {n₂ = 21} {m₂ = 255} (omega arith) k
 
 -- q counts of a stamp
-pub counts_le : (w q : ℕ) → w ≤ 9 → q ≤ 8 → w * q ≤ 72
-counts_le w q h k = mul-le-mul {n₁ = w} {m₁ = q} {n₂ = 9} {m₂ = 8} h k
+pub counts_le : (w q : ℕ) → w ≤ 9 → q ≤ 255 → w * q ≤ 2295
+counts_le w q h k = mul-le-mul {n₁ = w} {m₁ = q} {n₂ = 9} {m₂ = 255} h k
 
 -- r records
-pub records_le : (w n r : ℕ) → w ≤ 9 → n ≤ 8 → r ≤ 4096 → (4 + w + 12 + w * n) * r ≤ 397312
-records_le w n r h k l = mul-le-mul {n₁ = 4 + w + 12 + w * n} {m₁ = r} {n₂ = 97} {m₂ = 4096} (omega (arith, counts_le w n h k)) l
+pub records_le : (w n r : ℕ) → w ≤ 9 → n ≤ 255 → r ≤ 65535 → (16 + w + w * n) * r ≤ 152041200
+records_le w n r h k l = mul-le-mul {n₁ = 16 + w + w * n} {m₁ = r} {n₂ = 2320} {m₂ = 65535} (omega (arith, counts_le w n h k)) l
 
 -- a field that was looked at, of k bits where j are the most
 pub peeked_read : (s : List ℕ) (at at' k j r : ℕ) → r ≡ peeked s at k → at ≡ at' → k ≤ j → j ≤ 16 → (r ≡ field s at' k) × (r < 2 ^ j)

@@ -7,6 +7,7 @@ use Prim.Native.Nat.{ℕ, zero, suc, ◌+◌, ◌*◌, ◌≤◌, ◌<◌}
 use native.Mathlib.Nat.{mul-le-mul}
 use native.Mathlib.Omega.{arith}
 use lib.ListN.{length}
+use Rattle.std.specs.Prelude.{Ok, Err}
 use Rattle.bits.proofs.BitsLaws.{field_lt}
 use Rattle.cuts.proofs.ReplyLaws.{replies_equal}
 use Rattle.cuts.specs.Below.{sum_to}
@@ -16,10 +17,11 @@ use Rattle.cuts.specs.Orders.{Ev, PossibleOrder}
 use Rattle.cuts.proofs.DemandRight.{an_order}
 use Rattle.recording.specs.Recording.{Recording, messages, stamps}
 use Rattle.recording.specs.Form.{bytes_for, station_bit, record_size, record_bit, n_at, m_at, first_at, recording_of, needed, lead8, width8}
-use Rattle.recording.specs.Check.{fault_of, at_whole, or_else, record_tests, form_tests, checked_records, checked_of}
-use Rattle.recording.specs.declared.Refusal.{Refusal}
-use Rattle.recording.specs.declared.Checked.{Checked}
-use Rattle.recording.proofs.CheckLaws.{at_whole-0, at_whole-accepted, at_whole-refused, at_record-refused, accepted_not, fault_le, no_fault}
+use Rattle.recording.specs.Check.{fault_of, record_tests, form_tests, checked_records, checked_of}
+use Rattle.refusal.specs.Refusal.{Tested, Checked, whole, of_record, at_whole, or_else}
+use Rattle.refusal.specs.declared.Reason.{Reason}
+use Rattle.refusal.specs.declared.Refusal.{Refusal}
+use Rattle.recording.proofs.CheckLaws.{Among, here, later, fault_among, at_whole-accepted, at_whole-refused, at_record-refused}
 use Rattle.recording.proofs.CheckRight.{scan_formed, scan_stamped, formed_scan, Earlier, refused_first}
 use Rattle.recording.proofs.AcceptedRight.{accepted_accepts}
 
@@ -33,88 +35,96 @@ module _ (lead w : ℕ) (s : List ℕ) where
   abbrev S : Stamps
   S = stamps R
 
-  abbrev whole : ℕ
-  whole = fault_of (form_tests lead w s)
+  -- the first fault of the whole
+  abbrev tested : Tested
+  tested = fault_of (form_tests lead w s)
 
   pub check_unique : (r r' : Checked) → r ≡ checked_of lead w s → r' ≡ checked_of lead w s → r ≡ r'
   check_unique r r' = replies_equal
 
   -- accepted is formed and stamped ..
-  pub accepted_formed : checked_of lead w s ≡ Checked.Accepted → Formed T × Stamped T S
+  pub accepted_formed : checked_of lead w s ≡ Ok tt → Formed T × Stamped T S
   unfolding checked_records
   accepted_formed h =
       let a = (accepted_accepts lead w s h).records in
       (scan_formed T S a, scan_stamped T S (λ p q. refl) a)
 
-  records_accepted : Formed T → Stamped T S → checked_records R ≡ Checked.Accepted
+  records_accepted : Formed T → Stamped T S → checked_records R ≡ Ok tt
   unfolding checked_records
   records_accepted f t = formed_scan T S f t
 
   -- .. and what is formed and stamped is accepted, where the whole has no fault
-  pub formed_accepted : whole ≡ 0 → Formed T → Stamped T S → checked_of lead w s ≡ Checked.Accepted
-  unfolding checked_of
-  formed_accepted h f t = rw (h, at_whole-0) (records_accepted f t)
+  pub formed_accepted : tested ≡ Ok tt → Formed T → Stamped T S → checked_of lead w s ≡ Ok tt
+  unfolding checked_of at_whole
+  formed_accepted h f t = rw h (records_accepted f t)
 
   -- an accepted recording has a possible order
-  pub accepted_order : checked_of lead w s ≡ Checked.Accepted → (es : List Ev) × PossibleOrder T es
+  pub accepted_order : checked_of lead w s ≡ Ok tt → (es : List Ev) × PossibleOrder T es
   accepted_order h = let (f, t) = accepted_formed h in an_order T S f t
-
-  whole_le : whole ≤ 4
-  whole_le = fault_le _ _ 4 (omega arith) (fault_le _ _ 4 (omega arith) (fault_le _ _ 4 (omega arith) (fault_le _ _ 4 (omega arith) (fault_le _ _ 4 (omega arith) (fault_le _ _ 4 (omega arith) (no_fault 4))))))
 
   -- x is the fault of the whole, "0 and 0"
   pub record OfWhole (x : Refusal) : Type 0 where
-    pub faulty : whole ≢ 0
-    pub is : x ≡ record { number = whole; station = 0; event = 0 }
+    pub faulty : tested ≡ Err x.reason
+    pub is : x ≡ whole x.reason
 
   -- the whole has no fault, x is that of event e + 1 of the station at place p, and no record before it in file order has one
   pub record OfRecord (x : Refusal) : Type 0 where
-    pub whole_right : whole ≡ 0
+    pub whole_right : tested ≡ Ok tt
     pub p : ℕ
     pub e : ℕ
     pub station : p < length T.counts
     pub event : e < at T.counts p
-    pub faulty : fault_of (record_tests T S p e) ≢ 0
-    pub is : x ≡ record { number = fault_of (record_tests T S p e); station = p + 1; event = e + 1 }
-    pub before : (q k : ℕ) → q < length T.counts → k < at T.counts q → Earlier q k p e → fault_of (record_tests T S q k) ≡ 0
+    pub faulty : fault_of (record_tests T S p e) ≡ Err x.reason
+    pub is : x ≡ of_record p e x.reason
+    pub before : (q k : ℕ) → q < length T.counts → k < at T.counts q → Earlier q k p e → fault_of (record_tests T S q k) ≡ Ok tt
 
   -- a refusal is about the whole or, where that has no fault, about a record
-  refused_cases : (x : Refusal) → checked_of lead w s ≡ Checked.Refused x → OfWhole x ⊎ ((whole ≡ 0) × (checked_records R ≡ Checked.Refused x))
+  refused_cases : (x : Refusal) → checked_of lead w s ≡ Err x → OfWhole x ⊎ ((tested ≡ Ok tt) × (checked_records R ≡ Err x))
   unfolding checked_of
-  refused_cases x h = go (at_whole whole) refl h
+  refused_cases x h = go (at_whole tested) refl h
     where
-      go : (v : Checked) → at_whole whole ≡ v → or_else v (checked_records R) ≡ Checked.Refused x → OfWhole x ⊎ ((whole ≡ 0) × (checked_records R ≡ Checked.Refused x))
-      go Checked.Accepted e k = inr (at_whole-accepted whole e, k)
-      go (Checked.Refused y) e k = let (a, b) = at_whole-refused whole x (e ∙ k) in inl (record { faulty = a; is = b })
+      go : (v : Checked) → at_whole tested ≡ v → or_else v (checked_records R) ≡ Err x → OfWhole x ⊎ ((tested ≡ Ok tt) × (checked_records R ≡ Err x))
+      go (Ok u) e k = inr (at_whole-accepted tested e, k)
+      go (Err y) e k = let (r, a, b) = at_whole-refused tested x (e ∙ k) in inl (rw b (record { faulty = a; is = refl }))
 
-  records_first : (x : Refusal) → (whole ≡ 0) × (checked_records R ≡ Checked.Refused x) → OfRecord x
+  records_first : (x : Refusal) → (tested ≡ Ok tt) × (checked_records R ≡ Err x) → OfRecord x
   unfolding checked_records
   records_first x (z, h) =
       let (p, e, hp, he, a, b) = refused_first T (record_tests T S) x h in
-      let (n, i) = at_record-refused p e (fault_of (record_tests T S p e)) x a in
-      record { whole_right = z; p = p; e = e; station = hp; event = he; faulty = n; is = i; before = b }
+      let (k, n, i) = at_record-refused p e (fault_of (record_tests T S p e)) x a in
+      rw i (record { whole_right = z; p = p; e = e; station = hp; event = he; faulty = n; is = refl; before = b })
+
+  whole_never : (k : Reason) → tested ≡ Err k → (k ≢ Reason.Origin) × (k ≢ Reason.Number) × (k ≢ Reason.Stamp)
+  whole_never k h = go (fault_among _ k h)
+    where
+      go : Among k (form_tests lead w s) → (k ≢ Reason.Origin) × (k ≢ Reason.Number) × (k ≢ Reason.Stamp)
+      go (here e) = (λ i. cc, λ i. cc, λ i. cc)
+      go (later (here e)) = (λ i. cc, λ i. cc, λ i. cc)
+      go (later (later (here e))) = (λ i. cc, λ i. cc, λ i. cc)
+      go (later (later (later (here e)))) = (λ i. cc, λ i. cc, λ i. cc)
+      go (later (later (later (later (here e))))) = (λ i. cc, λ i. cc, λ i. cc)
+      go (later (later (later (later (later (here e)))))) = (λ i. cc, λ i. cc, λ i. cc)
+      go (later (later (later (later (later (later h)))))) = elim h [ ]
 
   -- what is formed and stamped is never refused with 5, 6 or 7
-  pub never_567 : Formed T → Stamped T S → (x : Refusal) → checked_of lead w s ≡ Checked.Refused x → (x.number ≢ 5) × (x.number ≢ 6) × (x.number ≢ 7)
+  pub never_567 : Formed T → Stamped T S → (x : Refusal) → checked_of lead w s ≡ Err x → (x.reason ≢ Reason.Origin) × (x.reason ≢ Reason.Number) × (x.reason ≢ Reason.Stamp)
   never_567 f t x h = go (refused_cases x h)
     where
-      go : OfWhole x ⊎ ((whole ≡ 0) × (checked_records R ≡ Checked.Refused x)) → (x.number ≢ 5) × (x.number ≢ 6) × (x.number ≢ 7)
-      go (inl o) =
-          let k : x.number ≤ 4 = rw o.is whole_le in
-          (λ i. omega arith, λ i. omega arith, λ i. omega arith)
-      go (inr (_, k)) = absurd (accepted_not (sym (records_accepted f t) ∙ k))
+      go : OfWhole x ⊎ ((tested ≡ Ok tt) × (checked_records R ≡ Err x)) → (x.reason ≢ Reason.Origin) × (x.reason ≢ Reason.Number) × (x.reason ≢ Reason.Stamp)
+      go (inl o) = whole_never x.reason o.faulty
+      go (inr (_, k)) = let z = sym (records_accepted f t) ∙ k in cc
 
   -- "A recording is never refused for having messages out of sending order": p receives two messages of the station at place i, the later one first
   pub out_of_order_accepted : (p e k i : ℕ) → Recorded T p e → Recorded T p k → e < k → T.origin p e ≡ suc i → T.origin p k ≡ suc i → T.number p k < T.number p e
-      → whole ≡ 0 → Formed T → Stamped T S → checked_of lead w s ≡ Checked.Accepted
+      → tested ≡ Ok tt → Formed T → Stamped T S → checked_of lead w s ≡ Ok tt
   out_of_order_accepted p e k i _ _ _ _ _ _ h f t = formed_accepted h f t
 
   -- a refusal with a station is about the first faulty record in file order ..
-  pub refused_record_first : (x : Refusal) → checked_of lead w s ≡ Checked.Refused x → x.station ≢ 0 → OfRecord x
+  pub refused_record_first : (x : Refusal) → checked_of lead w s ≡ Err x → x.station ≢ 0 → OfRecord x
   refused_record_first x h z = ⊎_elim (λ o. absurd (z (ap (λ (y : Refusal). y.station) o.is))) (records_first x) (refused_cases x h)
 
   -- .. and one without is about the whole
-  pub refused_whole_first : (x : Refusal) → checked_of lead w s ≡ Checked.Refused x → x.station ≡ 0 → OfWhole x
+  pub refused_whole_first : (x : Refusal) → checked_of lead w s ≡ Err x → x.station ≡ 0 → OfWhole x
   refused_whole_first x h z = ⊎_elim (λ o. o) (λ k. let r = records_first x k in absurd (omega (arith, ap (λ (y : Refusal). y.station) r.is))) (refused_cases x h)
 
 -- "The largest recording has 22,461 bytes": no recording of up to 8 stations needs more, and one of 2,040 records needs as many
@@ -132,7 +142,7 @@ module _ (s : List ℕ) where
       let r : (24 + 8 * n) * t ≤ 88 * 2040 = mul-le-mul {n₁ = 24 + 8 * n} {m₁ = t} {n₂ = 88} {m₂ = 2040} (omega arith) (omega (arith, events_le n)) in
       (omega (arith, r), refl)
 
-  pub accepted_largest : checked_of lead8 width8 s ≡ Checked.Accepted → length s ≤ 22461
+  pub accepted_largest : checked_of lead8 width8 s ≡ Ok tt → length s ≤ 22461
   accepted_largest h =
       let a = accepted_accepts lead8 width8 s h in
       omega (arith, a.just_needed, (largest a.n_most).0)

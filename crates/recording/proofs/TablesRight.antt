@@ -9,16 +9,19 @@ use native.Mathlib.Nat.{max-zero}
 use native.Mathlib.Omega.{arith}
 use lib.Dec.{leb, ltb, eqb}
 use lib.ListN.{length}
+use Rattle.std.specs.Prelude.{Result, Ok, Err}
 use borrow.Author.Tests.{ltb-false, leb-true, le-leb, lt-leb, ne_eqb}
 use Rattle.cuts.specs.Below.{own}
 use Rattle.cuts.specs.Cut.{at}
 use Rattle.cuts.specs.Trace.{Messages, Stamps, wanted}
-use Rattle.cuts.proofs.BelowLaws.{and_true}
+use Rattle.cuts.proofs.BelowLaws.{and_true, every_same}
 use Rattle.recording.specs.Recording.{Recording, counts_of, messages, stamps}
 use Rattle.recording.specs.Check.{test, fault_of, origin_ok, number_ok, stamp_ok}
 use Rattle.faults.specs.Fault.{source_of, place_at, place_right, stamp_fault, local_fault, receipt_fault, source_fault, table_fault}
 use Rattle.faults.specs.declared.Source.{Source}
-use Rattle.faults.proofs.FaultLaws.{every_same, leb_not, source_of-is, stamp_fault-every, receipt_fault-from, table_fault-source}
+use Rattle.refusal.specs.Refusal.{Tested}
+use Rattle.refusal.specs.declared.Reason.{Reason}
+use Rattle.faults.proofs.FaultLaws.{leb_not, source_of-is, stamp_fault-every, receipt_fault-from, table_fault-source}
 use Rattle.recording.specs.Fault.{fault_at}
 
 -- the tables have what the recording says: n, the counts, room for all records, and at eight places a record the stamps; each station's records begin at its first
@@ -30,12 +33,14 @@ pub record Tables (R : Recording) (n : ℕ) (m firsts rows : List ℕ) : Type 0 
   pub places : (p e q : ℕ) → p < n → e < at m p → q < n → at rows (8 * (at firsts p + e) + q) ≡ stamps R p (suc e) q
 
 -- the faults of a record, by its three tests
-three_faults : (a b d : Bool) → fault_of (test 5 a ∷ test 6 b ∷ test 7 d ∷ []) ≡ cond a (cond b (cond d 0 7) 6) 5
+three_faults : (a b d : Bool) → fault_of (test Reason.Origin a ∷ test Reason.Number b ∷ test Reason.Stamp d ∷ [])
+    ≡ cond a (cond b (cond d (Ok tt) (Err Reason.Stamp)) (Err Reason.Number)) (Err Reason.Origin)
 unfolding fault_of
 three_faults a b d = refl
 
 -- two ways to ask for the first fault of a receipt: whether the origin is wrong, or whether it is right
-receipt_faults : (u v a b : Bool) (x y : ℕ) → (u ≡ false → a ≡ b) → (u ≡ false → b ≡ true → x ≡ y) → cond (u || v) 5 (cond a x 6) ≡ cond (not u && not v) (cond b y 6) 5
+receipt_faults : (u v a b : Bool) (x y : Tested) → (u ≡ false → a ≡ b) → (u ≡ false → b ≡ true → x ≡ y)
+    → cond (u || v) (Err Reason.Origin) (cond a x (Err Reason.Number)) ≡ cond (not u && not v) (cond b y (Err Reason.Number)) (Err Reason.Origin)
 receipt_faults true v a b x y h g = refl
 receipt_faults false true a b x y h g = refl
 receipt_faults false false a true x y h g = rw (h refl) (g refl refl)
@@ -57,18 +62,18 @@ module _ {R : Recording} {n : ℕ} {m firsts rows : List ℕ} (tables : Tables R
   module _ (p e : ℕ) (hp : p < n) (he : e < at m p) where
     -- the stamp tested in the table is the stamp tested in the recording, where what is received is wanted
     stamp_tabled : (o i k : ℕ) → T.origin p (suc e) ≡ o → i < n → k ≤ at m i
-        → ((q : ℕ) → wanted T S o p e q ≡ max (S p e q) (S i k q) + own p q) → stamp_fault n rows p (at firsts p) e (at firsts i) k ≡ cond (stamp_ok T S p e) 0 7
+        → ((q : ℕ) → wanted T S o p e q ≡ max (S p e q) (S i k q) + own p q) → stamp_fault n rows p (at firsts p) e (at firsts i) k ≡ cond (stamp_ok T S p e) (Ok tt) (Err Reason.Stamp)
     unfolding stamp_ok place_right
     stamp_tabled o i k eo hi hk hw =
         rw (stamp_fault-every rows p (at firsts p) e (at firsts i) k n (omega (arith, tables.room p hp)) (omega (arith, tables.room i hi)), tables.stations, eo)
-        (ap (λ (b : Bool). cond b 0 7)
+        (ap (λ (b : Bool). cond {A = Tested} b (Ok tt) (Err Reason.Stamp))
         (every_same n _ _ (λ q hq. ap₂ eqb (place_tabled p (suc e) q hp he hq) (ap₂ (λ (x y : ℕ). max x y + own p q) (place_tabled p e q hp (omega arith) hq) (place_tabled i k q hi hk hq) ∙ sym (hw q)))))
 
     module _ (o k : ℕ) (eo : T.origin p (suc e) ≡ o) (ek : T.number p (suc e) ≡ k) where
       local_tabled : o ≡ 0 → local_fault n rows p (at firsts p) e k ≡ fault_at R p e
       unfolding fault_at local_fault origin_ok number_ok
       local_tabled z =
-          let f : stamp_fault n rows p (at firsts p) e (at firsts p) 0 ≡ cond (stamp_ok T S p e) 0 7 = stamp_tabled 0 p 0 (eo ∙ z) hp (omega arith) (λ q. ap (λ (x : ℕ). x + own p q) (sym (max-zero _))) in
+          let f : stamp_fault n rows p (at firsts p) e (at firsts p) 0 ≡ cond (stamp_ok T S p e) (Ok tt) (Err Reason.Stamp) = stamp_tabled 0 p 0 (eo ∙ z) hp (omega arith) (λ q. ap (λ (x : ℕ). x + own p q) (sym (max-zero _))) in
           rw (three_faults _ _ _, eo, z, ek, f, le-leb 0 (length T.counts) (omega arith), ne_eqb 0 (p + 1) (λ i. omega arith)) refl
 
       receipt_tabled : (i : ℕ) → o ≡ suc i → receipt_fault n m firsts rows p e (suc i) k ≡ fault_at R p e
@@ -80,19 +85,19 @@ module _ {R : Recording} {n : ℕ} {m firsts rows : List ℕ} (tables : Tables R
           (λ u v. let hi = ltb-false n (suc i) u in
           stamp_tabled (suc i) i k (eo ∙ z) hi (omega (arith, leb-true k (at T.counts i) (and_true (leb 1 k) (leb k (at T.counts i)) v).1, tables.counts i hi)) (λ q. rw ek refl)))
 
-      unknown_tabled : 8 < o → 5 ≡ fault_at R p e
+      unknown_tabled : 8 < o → Err Reason.Origin ≡ fault_at R p e
       unfolding fault_at origin_ok
       unknown_tabled h = rw (three_faults _ _ _, eo, tables.stations, lt-leb o n (omega (arith, tables.most))) refl
 
       -- the fault by the kind of the origin
-      source_right : (x : Source) → x ≡ source_of o → source_fault n m firsts rows x k p e ≡ fault_at R p e
+      source_right : (x : Result Source Reason) → x ≡ source_of o → source_fault n m firsts rows x k p e ≡ fault_at R p e
       unfolding source_fault
-      source_right Source.Local h = local_tabled (source_of-is _ o h)
-      source_right (Source.From x) h =
+      source_right (Ok Source.Local) h = local_tabled (source_of-is _ o h)
+      source_right (Ok (Source.From x)) h =
           let (a, b, d) = source_of-is _ o h in
           let z : x ≡ suc (x - 1) = omega arith in
           ap (λ (y : ℕ). receipt_fault n m firsts rows p e y k) z ∙ receipt_tabled (x - 1) (sym a ∙ z)
-      source_right Source.Unknown h = unknown_tabled (source_of-is _ o h)
+      source_right (Err r) h = let (e, l) = source_of-is _ o h in rw e (unknown_tabled l)
 
       -- and by the origin
       pub table_right : table_fault n m firsts rows o k p e ≡ fault_at R p e

@@ -6,6 +6,7 @@ use Prim.Native.Nat.{ℕ, ◌+◌, ◌-◌, ◌*◌, ◌≤◌, ◌<◌}
 use native.Mathlib.Nat.{le_trans}
 use native.Mathlib.Omega.{arith}
 use lib.ListN.{length, drop}
+use Rattle.std.specs.Prelude.{Ok, Err}
 use lib.Seq.{take_at}
 use lib.Dec.{leb, eqb}
 use borrow.Author.Tests.{leb-true, le-leb, lt-leb, eq-eqb, ne_eqb}
@@ -15,12 +16,13 @@ use Rattle.cuts.specs.Below.{tab}
 use Rattle.cuts.specs.Cut.{at}
 use Rattle.cuts.proofs.BelowLaws.{and_true, length_tab, get_d-tab}
 use Rattle.recording.specs.Form.{bytes_for, station_bit, record_bit, n_at, first_at, recording_of, needed, padding}
-use Rattle.recording.specs.Check.{Test, test, fault_of, refusal, form_tests, checked_records, checked_of}
+use Rattle.recording.specs.Check.{Test, test, fault_of, form_tests, checked_records, checked_of}
+use Rattle.refusal.specs.Refusal.{Tested, whole, at_whole}
+use Rattle.refusal.specs.declared.Reason.{Reason}
 use Rattle.recording.specs.Decode.{events_at, records_to, stamp_cell, Laid}
 use Rattle.recording.specs.Decoded.{RowsLaid}
 use Rattle.recording.specs.Fault.{form_fault, end_fault}
-use Rattle.recording.proofs.CheckLaws.{Pass, and_then, fault_pass, fault_next, fault_here, fault_twice, no_fault, fault_le, at_whole-0, at_whole-fault}
-use Rattle.recording.proofs.AcceptedRight.{numbered}
+use Rattle.recording.proofs.CheckLaws.{Pass, and_then, fault_pass, fault_next, fault_here, fault_twice}
 use Rattle.recording.proofs.DecodeLaws.{records_to-first_at, records_to-beyond, records_to-most}
 
 -- whole bytes hold the bits, and one less does not
@@ -31,23 +33,23 @@ bytes_for-holds b = (omega arith, omega arith)
 -- the tests of the end, with d for the bytes needed
 module _ (s : List ℕ) (b d : ℕ) (e : d ≡ bytes_for b) where
   abbrev zeros : Test
-  zeros = test 4 (eqb (field s b (8 * d - b)) 0)
+  zeros = test Reason.Padding (eqb (field s b (8 * d - b)) 0)
 
   abbrev from_long : List Test
-  from_long = test 3 (leb (length s) d) ∷ zeros ∷ []
+  from_long = test Reason.TooLong (leb (length s) d) ∷ zeros ∷ []
 
-  all_end : end_fault s b ≡ fault_of (test 1 (leb d (length s)) ∷ from_long)
+  all_end : end_fault s b ≡ fault_of (test Reason.TooShort (leb d (length s)) ∷ from_long)
   unfolding end_fault
   all_end = rw (← e) refl
 
-  pub end_fault-short : length s < d → 1 ≡ end_fault s b
+  pub end_fault-short : length s < d → Err Reason.TooShort ≡ end_fault s b
   end_fault-short h = sym (all_end ∙ fault_here _ from_long (lt-leb d (length s) h))
 
   module _ (h : d ≤ length s) where
     pass_short : end_fault s b ≡ fault_of from_long
     pass_short = all_end ∙ fault_next _ from_long (le-leb d (length s) h)
 
-    pub end_fault-long : d < length s → 3 ≡ end_fault s b
+    pub end_fault-long : d < length s → Err Reason.TooLong ≡ end_fault s b
     end_fault-long g = sym (pass_short ∙ fault_here _ (zeros ∷ []) (lt-leb (length s) d g))
 
     module _ (g : length s ≤ d) (x : ℕ) (ex : x ≡ peeked s b (8 * d - b)) where
@@ -57,10 +59,10 @@ module _ (s : List ℕ) (b d : ℕ) (e : d ≡ bytes_for b) where
       read : x ≡ field s b (8 * d - b)
       read = ex ∙ peeked_field s b (8 * d - b) (omega (arith, e, bytes_for-holds b))
 
-      pub end_fault-padding : (x ≡ 0 → ⊥) → 4 ≡ end_fault s b
+      pub end_fault-padding : (x ≡ 0 → ⊥) → Err Reason.Padding ≡ end_fault s b
       end_fault-padding f = sym (pass_long ∙ fault_here zeros [] (ne_eqb _ 0 (λ z. f (read ∙ z))))
 
-      pub end_fault-right : x ≡ 0 → 0 ≡ end_fault s b
+      pub end_fault-right : x ≡ 0 → Ok tt ≡ end_fault s b
       unfolding fault_of
       end_fault-right f = sym (pass_long ∙ fault_next zeros [] (eq-eqb _ 0 (sym read ∙ f)))
 
@@ -70,19 +72,19 @@ stations_pass {n = n} h = let (x, y) = and_true (leb 1 n) (leb n 8) h in (leb-tr
 -- the tests of the whole, with n as it was read; where the head is cut short the whole is
 module _ (lead w : ℕ) (s : List ℕ) where
   abbrev from_end : List Test
-  from_end = test 1 (leb (needed lead w s) (length s)) ∷ test 3 (leb (length s) (needed lead w s)) ∷ test 4 (eqb (padding lead w s) 0) ∷ []
+  from_end = test Reason.TooShort (leb (needed lead w s) (length s)) ∷ test Reason.TooLong (leb (length s) (needed lead w s)) ∷ test Reason.Padding (eqb (padding lead w s) 0) ∷ []
 
   abbrev from_head : List Test
-  from_head = test 1 (leb (bytes_for (station_bit lead w (n_at lead s))) (length s)) ∷ from_end
+  from_head = test Reason.TooShort (leb (bytes_for (station_bit lead w (n_at lead s))) (length s)) ∷ from_end
 
   abbrev from_n : List Test
-  from_n = test 2 (leb 1 (n_at lead s) && leb (n_at lead s) 8) ∷ from_head
+  from_n = test Reason.Stations (leb 1 (n_at lead s) && leb (n_at lead s) 8) ∷ from_head
 
   head_needed : bytes_for (station_bit lead w (n_at lead s)) ≤ needed lead w s
   unfolding needed bytes_for record_bit
   head_needed = omega arith
 
-  pub form_fault-empty : length s < 1 → 1 ≡ form_fault lead w s
+  pub form_fault-empty : length s < 1 → Err Reason.TooShort ≡ form_fault lead w s
   unfolding form_fault
   form_fault-empty a = sym (fault_here _ from_n (lt-leb 1 (length s) a))
 
@@ -91,10 +93,10 @@ module _ (lead w : ℕ) (s : List ℕ) where
     unfolding form_fault
     pass_empty = fault_next _ from_n (le-leb 1 (length s) a)
 
-    pub form_fault-none : n < 1 → 2 ≡ form_fault lead w s
+    pub form_fault-none : n < 1 → Err Reason.Stations ≡ form_fault lead w s
     form_fault-none b = sym (pass_empty ∙ fault_here _ from_head (rw (lt-leb 1 (n_at lead s) (rw en at b)) refl))
 
-    pub form_fault-many : 8 < n → 2 ≡ form_fault lead w s
+    pub form_fault-many : 8 < n → Err Reason.Stations ≡ form_fault lead w s
     form_fault-many b = sym (pass_empty ∙ fault_here _ from_head (rw (le-leb 1 (n_at lead s) (omega arith), lt-leb (n_at lead s) 8 (rw en at b)) refl))
 
     module _ (b : 1 ≤ n) (c : n ≤ 8) where
@@ -102,42 +104,31 @@ module _ (lead w : ℕ) (s : List ℕ) where
       pass_head =
           pass_empty
           ∙ fault_next _ from_head (rw (le-leb 1 (n_at lead s) (rw en at b), le-leb (n_at lead s) 8 (rw en at c)) refl)
-          ∙ fault_twice 1 _ _ _ (λ h. le-leb (bytes_for (station_bit lead w (n_at lead s))) (length s) (le_trans head_needed (leb-true (needed lead w s) (length s) h)))
+          ∙ fault_twice Reason.TooShort _ _ _ (λ h. le-leb (bytes_for (station_bit lead w (n_at lead s))) (length s) (le_trans head_needed (leb-true (needed lead w s) (length s) h)))
 
-      pub form_fault-end : (t b k : ℕ) → t ≡ first_at lead w s (n_at lead s) → b ≡ record_bit lead w n t → k ≡ end_fault s b → k ≡ form_fault lead w s
+      pub form_fault-end : (t b : ℕ) (r : Tested) → t ≡ first_at lead w s (n_at lead s) → b ≡ record_bit lead w n t → r ≡ end_fault s b → r ≡ form_fault lead w s
       unfolding end_fault needed padding
-      form_fault-end t b k et eb ek = ek ∙ rw (eb, et, en) (sym pass_head)
+      form_fault-end t b r et eb er = er ∙ rw (eb, et, en) (sym pass_head)
 
 -- where no test fails
 module _ (lead w : ℕ) (s : List ℕ) where
   -- n is 1 to 8
-  pub form_fault-stations : form_fault lead w s ≡ 0 → (1 ≤ n_at lead s) × (n_at lead s ≤ 8)
+  pub form_fault-stations : form_fault lead w s ≡ Ok tt → (1 ≤ n_at lead s) × (n_at lead s ≤ 8)
   unfolding form_fault
-  form_fault-stations h = go (fault_pass _ (numbered lead w s) h)
+  form_fault-stations h = go (fault_pass _ h)
     where
       go : Pass (form_tests lead w s) → (1 ≤ n_at lead s) × (n_at lead s ≤ 8)
       go (and_then a (and_then b r)) = stations_pass b
 
   -- the checks of the whole come first
-  pub checked_of-fault : (k : ℕ) → k ≡ form_fault lead w s → (k ≡ 0 → ⊥) → refusal k 0 0 ≡ checked_of lead w s
-  unfolding checked_of form_fault
-  checked_of-fault k e h = rw (← e, at_whole-fault k h) refl
+  pub checked_of-fault : (k : Reason) → Err k ≡ form_fault lead w s → Err (whole k) ≡ checked_of lead w s
+  unfolding checked_of form_fault at_whole
+  checked_of-fault k e = rw (← e) refl
 
   -- .. and then those of the records
-  pub checked_of-records : form_fault lead w s ≡ 0 → checked_records (recording_of lead w s) ≡ checked_of lead w s
-  unfolding checked_of form_fault
-  checked_of-records h = rw (h, at_whole-0) refl
-
-  -- a fault's number is below 8, so that it stands for itself alone
-  pub form_fault-lt : (k : ℕ) → k ≡ form_fault lead w s → k < 8
-  unfolding form_fault
-  form_fault-lt k e =
-      let h₁ : 1 ≤ 4 = omega arith in
-      let h₂ : 2 ≤ 4 = omega arith in
-      let h₃ : 3 ≤ 4 = omega arith in
-      let h₄ : 4 ≤ 4 = omega arith in
-      let h : fault_of (form_tests lead w s) ≤ 4 = fault_le _ _ 4 h₁ (fault_le _ _ 4 h₂ (fault_le _ _ 4 h₁ (fault_le _ _ 4 h₁ (fault_le _ _ 4 h₃ (fault_le _ _ 4 h₄ (no_fault 4)))))) in
-      omega arith
+  pub checked_of-records : Ok tt ≡ form_fault lead w s → checked_records (recording_of lead w s) ≡ checked_of lead w s
+  unfolding checked_of form_fault at_whole
+  checked_of-records e = rw (← e) refl
 
   -- the tables as the code makes them are what the checks of the records read
   pub laid_read : (n : ℕ) (m firsts rows : List ℕ) → 1 ≤ n_at lead s → RowsLaid lead w s rows → n ≡ n_at lead s → m ≡ tab 8 (events_at lead w s n) → firsts ≡ tab 9 (records_to lead w s n)

@@ -1,44 +1,30 @@
 -- The checks of a recording: document 01, "Refusal numbers" and the order "no byte (1), 2, header too short or whole too short (1), 3, 4; then record by
 -- record in file order 5, 6, 7". Written as lists of tests in that order. In order: tests; the first refusal; one record; the whole.
-use Rattle.std.specs.Prelude.{Bool, ◌&&◌, not, cond, List, [], ◌∷◌, ℕ, zero, suc, ◌+◌, length, leb, eqb}
+use Rattle.std.specs.Prelude.{Bool, ◌&&◌, not, cond, List, [], ◌∷◌, ℕ, zero, suc, ◌+◌, length, leb, eqb, Ok, Err}
 use Rattle.cuts.specs.Below.{every}
 use Rattle.cuts.specs.Cut.{at}
 use Rattle.cuts.specs.Trace.{Messages, Stamps, wanted}
 use Rattle.recording.specs.Recording.{Recording, messages, stamps}
 use Rattle.recording.specs.Form.{bytes_for, station_bit, n_at, recording_of, needed, padding}
-use Rattle.recording.specs.declared.Checked.{Checked}
+use Rattle.refusal.specs.Refusal.{Tested, Checked, at_whole, at_record, or_else}
+use Rattle.refusal.specs.declared.Reason.{Reason}
 
--- a refusal number, and whether what it stands for is in order
+-- a reason to refuse, and whether what it stands for is in order
 pub record Test : Type 0 where
-  pub number : ℕ
+  pub reason : Reason
   pub passes : Bool
 
-abbrev pub test : ℕ → Bool → Test
-test k b = record { number = k; passes = b }
+abbrev pub test : Reason → Bool → Test
+test k b = record { reason = k; passes = b }
 
--- the number of the first test that fails, 0 if all pass
-unfoldable pub fault_of : List Test → ℕ
-fault_of [] = 0
-fault_of (t ∷ ts) = let r = fault_of ts in cond t.passes r t.number
-
-abbrev pub refusal : ℕ → ℕ → ℕ → Checked
-refusal k station event = Checked.Refused (record { number = k; station = station; event = event })
-
--- "Each refusal returns its number with a station and event": those of a record ..
-unfoldable pub at_record : ℕ → ℕ → ℕ → Checked
-at_record p e k = cond (eqb k 0) Checked.Accepted (refusal k (p + 1) (e + 1))
-
--- .. "0 and 0 otherwise"
-unfoldable pub at_whole : ℕ → Checked
-at_whole k = cond (eqb k 0) Checked.Accepted (refusal k 0 0)
-
-abbrev pub or_else : Checked → Checked → Checked
-or_else Checked.Accepted b = b
-or_else (Checked.Refused x) b = Checked.Refused x
+-- the reason of the first test that fails, if one does
+unfoldable pub fault_of : List Test → Tested
+fault_of [] = Ok tt
+fault_of (t ∷ ts) = let r = fault_of ts in cond t.passes r (Err t.reason)
 
 -- the first refusal among f 0, f 1, .., n of them
 unfoldable pub scan_to : ℕ → (ℕ → Checked) → Checked
-scan_to zero f = Checked.Accepted
+scan_to zero f = Ok tt
 scan_to (suc n) f = or_else (scan_to n f) (f n)
 
 module _ (T : Messages) where
@@ -58,9 +44,9 @@ module _ (T : Messages) where
   -- the tests of event e + 1 of the station at place p
   abbrev pub record_tests : Stamps → ℕ → ℕ → List Test
   record_tests S p e =
-      test 5 (origin_ok p (T.origin p (suc e)))
-      ∷ test 6 (number_ok (T.origin p (suc e)) (T.number p (suc e)))
-      ∷ test 7 (stamp_ok S p e)
+      test Reason.Origin (origin_ok p (T.origin p (suc e)))
+      ∷ test Reason.Number (number_ok (T.origin p (suc e)) (T.number p (suc e)))
+      ∷ test Reason.Stamp (stamp_ok S p e)
       ∷ []
 
   -- "record by record in file order", where `tests` are those of one record
@@ -75,12 +61,12 @@ module _ (lead w : ℕ) (s : List ℕ) where
   -- the tests of the whole
   abbrev pub form_tests : List Test
   form_tests =
-      test 1 (leb 1 (length s))
-      ∷ test 2 (leb 1 (n_at lead s) && leb (n_at lead s) 8)
-      ∷ test 1 (leb (bytes_for (station_bit lead w (n_at lead s))) (length s))
-      ∷ test 1 (leb (needed lead w s) (length s))
-      ∷ test 3 (leb (length s) (needed lead w s))
-      ∷ test 4 (eqb (padding lead w s) 0)
+      test Reason.TooShort (leb 1 (length s))
+      ∷ test Reason.Stations (leb 1 (n_at lead s) && leb (n_at lead s) 8)
+      ∷ test Reason.TooShort (leb (bytes_for (station_bit lead w (n_at lead s))) (length s))
+      ∷ test Reason.TooShort (leb (needed lead w s) (length s))
+      ∷ test Reason.TooLong (leb (length s) (needed lead w s))
+      ∷ test Reason.Padding (eqb (padding lead w s) 0)
       ∷ []
 
   -- all of it, in the written order

@@ -1,9 +1,10 @@
 -- The settled examples of document 01 that are about a recording's bytes: A, and examples 9, 10 and 11; and a recording whose messages arrive out of
 -- sending order. The checks are tried on them by computation (`SettledBytes`).
-use Rattle.std.specs.Prelude.{◌≡◌, List, [], ◌∷◌, map, ℕ}
+use Rattle.std.specs.Prelude.{◌≡◌, List, [], ◌∷◌, map, ℕ, Ok, Err}
 use Rattle.recording.specs.Form.{lead8, width8}
-use Rattle.recording.specs.Check.{refusal, checked_of}
-use Rattle.recording.specs.declared.Checked.{Checked}
+use Rattle.recording.specs.Check.{checked_of}
+use Rattle.refusal.specs.Refusal.{Checked}
+use Rattle.refusal.specs.declared.Reason.{Reason}
 
 pub record Row : Type 0 where
   pub bytes : List ℕ
@@ -35,8 +36,12 @@ overtaken =
     0x20 ∷ 0x20 ∷ 0x00 ∷ 0x02 ∷ 0x00 ∷ 0x00 ∷ 0x00 ∷ 0x00 ∷ 0x00 ∷ 0x10 ∷ 0x00 ∷ 0x00 ∷ 0x00
     ∷ 0x00 ∷ 0x20 ∷ 0x01 ∷ 0x02 ∷ 0x00 ∷ 0x00 ∷ 0x20 ∷ 0x11 ∷ 0x01 ∷ 0x00 ∷ 0x00 ∷ 0x20 ∷ 0x20 ∷ []
 
+-- 7 with the station, and its event 1
+abbrev refused : ℕ → Checked
+refused station = Err (record { reason = Reason.Stamp; station = station; event = 1 })
+
 abbrev pub rows : List Row
-rows = row A Checked.Accepted ∷ row nine (refusal 7 2 1) ∷ row ten (refusal 7 1 1) ∷ row eleven Checked.Accepted ∷ row overtaken Checked.Accepted ∷ []
+rows = row A (Ok tt) ∷ row nine (refused 2) ∷ row ten (refused 1) ∷ row eleven (Ok tt) ∷ row overtaken (Ok tt) ∷ []
 
 -- the checks answer each row as it says
 abbrev pub Settled : Type 0

@@ -5,3 +5,4 @@ pub mod Decode
 pub mod Fault
 pub mod ExampleBytes
 pub mod Decoded
+pub mod Packed

@@ -1,98 +1,70 @@
 // The packed recording of document 01: checked, laid out flat.
 #![tactic(auto)]
 
-ghost use Rattle.std.specs.Prelude.{◌≡◌, ◌&&◌, not, ◌*◌, ◌≤◌, leb};
+ghost use Rattle.std.specs.Prelude.{◌≡◌};
 ghost use Rattle.recording.specs.Form.{lead8, width8};
 ghost use Rattle.recording.specs.Check.{checked_of};
 ghost use Rattle.recording.specs.Decoded.{Decodes};
 ghost use Rattle.recording.specs.Decode.{full_of, starts_of};
+ghost use Rattle.recording.specs.declared.DecodeError.TheVariants.{Refused};
 
 mod form;
+mod packed;
 mod records;
 
 use cut::Cut;
+pub use form::{Form, bytes_for};
+use packed::{CELLS, Packed};
+pub use refusal::{Reason, Refusal};
 
-// A refusal: its number, with the station and event of the record that it is about, or 0 and 0.
-#[derive(Clone, Copy)]
-pub struct Refusal {
-    pub number: u8,
-    pub station: u8,
-    pub event: u16,
-}
-
-// The answer of the checks.
-#[derive(Clone, Copy)]
-pub enum Checked {
-    Accepted,
+// Why a recording is not decoded: the checks refuse it, or a room is too short for its table.
+#[derive(Clone, Copy, Debug, PartialEq, Eq)]
+pub enum DecodeError {
     Refused(Refusal),
-}
-
-// The tables are laid; a room is too short for its table; or the refusal.
-#[derive(Clone, Copy)]
-pub enum Decoded {
-    Done,
     Short,
-    Refused(Refusal),
 }
 
-// The bits that lead up to the stations' parts, and those of a count, in the form of document 01.
-const LEAD: usize = 4;
+impl From<Refusal> for DecodeError {
+    ghost from_gives = { λ x e. e ≡ Refused x };
 
-const WIDTH: usize = 8;
+    fn from(refusal: Refusal) -> DecodeError {
+        DecodeError::Refused(refusal)
+    }
+}
 
 // The checks of a recording, in the written order.
-pub fn check(s: &[u8]) -> Checked
+pub fn check(s: &[u8]) -> Result<(), Refusal>
     ensures { result ≡ checked_of lead8 width8 s.now }
 {
-    let mut rows = [0u16; 32704];
-    let v = records::check_rows(LEAD, WIDTH, s, &mut rows);
-    if v != 0 {
-        return Checked::Refused(records::refusal(v));
-    }
-    Checked::Accepted
+    Packed::of(s).check_rows(&mut [0u16; CELLS])
 }
 
 // The checks and, where they accept, the tables of stamps and levels into the fronts of the rooms.
-pub fn decode(s: &[u8], stamps: &mut [u16], levels: &mut [u16]) -> Decoded
+pub fn decode(s: &[u8], stamps: &mut [u16], levels: &mut [u16]) -> Result<(), DecodeError>
     ensures { Decodes lead8 width8 s.now stamps.old levels.old result stamps.new levels.new }
 {
-    let mut rows = [0u16; 32704];
-    let v = records::check_rows(LEAD, WIDTH, s, &mut rows);
-    if v != 0 {
-        return Decoded::Refused(records::refusal(v));
+    let packed = Packed::of(s);
+    let mut rows = [0u16; CELLS];
+    packed.check_rows(&mut rows)?;
+    let total = packed.total();
+    let cells = 8 * usize::from(total);
+    if stamps.len() < cells || levels.len() < usize::from(total) {
+        return Err(DecodeError::Short);
     }
-    let total = form::total(LEAD, WIDTH, s);
-    if short(total, stamps.len(), levels.len()) {
-        return Decoded::Short;
-    }
-    form::copy(&rows, 8 * total, stamps);
-    form::lay_levels(LEAD, WIDTH, s, total, levels);
-    Decoded::Done
-}
-
-// Whether one of two rooms is too short for its table of so many records.
-fn short(total: usize, stamps: usize, levels: usize) -> bool
-    requires { total ≤ 4088 }
-    ensures { result ≡ not (leb (8 * total) stamps && leb total levels) }
-{
-    if stamps < 8 * total {
-        return true;
-    }
-    if levels < total {
-        return true;
-    }
-    false
+    stamps[..cells].copy_from_slice(&rows[..cells]);
+    packed.lay_levels(total, levels);
+    Ok(())
 }
 
 // The n and m that the bytes name, as the full cut.
 pub fn full_cut(s: &[u8]) -> Cut
     ensures { result ≡ full_of lead8 width8 s.now }
 {
-    let n = form::stations(LEAD, s);
-    let counts = form::counts(LEAD, WIDTH, s, n);
+    let packed = Packed::of(s);
+    let n = packed.stations();
     Cut {
-        counts: counts,
-        n: n as u8,
+        counts: packed.counts(n),
+        n,
     }
 }
 
@@ -100,12 +72,7 @@ pub fn full_cut(s: &[u8]) -> Cut
 pub fn starts(s: &[u8]) -> [u16; 8]
     ensures { result ≡ starts_of lead8 width8 s.now }
 {
-    let n = form::stations(LEAD, s);
-    let mut l = [0u16; 8];
-    let mut p: usize = 0;
-    while p < 8 {
-        l[p] = form::start(LEAD, WIDTH, s, n, p);
-        p += 1;
-    }
-    l
+    let packed = Packed::of(s);
+    let n = packed.stations();
+    packed.starts(n)
 }

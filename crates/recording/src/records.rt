@@ -1,155 +1,135 @@
-// The checks of a recording. A refusal goes through them as one number: 4,096 times the station, 8 times the event, and its own number; 0 is none.
-ghost use Rattle.std.specs.Prelude.{◌≡◌, ◌+◌, ◌*◌, ◌≤◌, ◌<◌, length};
-ghost use Rattle.recording.specs.Form.{n_at, recording_of};
-ghost use Rattle.recording.specs.Check.{at_record, checked_records};
-ghost use Rattle.recording.specs.Decode.{events_at, Laid};
+// The checks of a recording: of the whole, then record by record in file order.
+ghost use Rattle.std.specs.Prelude.{◌≡◌, ◌≤◌, ◌<◌};
+ghost use Rattle.cuts.specs.Cut.{at};
+ghost use Rattle.recording.specs.Form.{recording_of};
+ghost use Rattle.recording.specs.Check.{checked_records};
+ghost use Rattle.recording.specs.Decode.{Laid};
+ghost use Rattle.recording.specs.Packed.{over, n_of};
 ghost use Rattle.recording.specs.Decoded.{RowsLaid, CheckedRows};
-ghost use Rattle.recording.specs.Fault.{form_fault, end_fault, checked_record, checked_station, next_of, refusal_by, checked_by};
+ghost use Rattle.recording.specs.Fault.{form_fault, end_fault, fault_at, checked_record, checked_station};
 
-use crate::{Refusal, form};
+use crate::bytes_for;
+use crate::packed::{CELLS, Packed};
+use faults::Tables;
+use refusal::{Reason, Refusal};
 
-// The checks in the written order, with a room for the table of stamps, which stands in front of it where the recording is accepted.
-pub fn check_rows(lead: usize, w: usize, s: &[u8], rows: &mut [u16]) -> u16
-    requires { (4 ≤ lead) × (lead ≤ 8) × (1 ≤ w) × (w ≤ 9) × (length rows.old ≡ 32704) }
-    ensures { CheckedRows lead w s.now result rows.new }
-{
-    let k = form_fault(lead, w, s);
-    if k != 0 {
-        return k;
+impl<'a> Packed<'a> {
+    // The checks in the written order, with a room for the table of stamps, which stands in front of it where the recording is accepted.
+    // Inlined where the form is made, so that its numbers are constants in the loops.
+    #[inline(always)]
+    pub fn check_rows(self, rows: &mut [u16; CELLS]) -> Result<(), Refusal>
+        ensures { CheckedRows self.entry.form.lead self.entry.form.width self.entry.bytes.now result rows.new }
+    {
+        self.check_form()?;
+        self.lay_stamps(rows);
+        self.tabled(rows).check_records()
     }
-    form::lay_stamps(lead, w, s, rows);
-    scan_stations(lead, w, s, rows)
+
+    // The first test of the whole that fails. Stations' parts that are cut short are not looked for: the whole is too short then, which has the same
+    // number.
+    fn check_form(self) -> Result<(), Reason>
+        ensures { result ≡ over self.entry form_fault }
+    {
+        if self.bytes.is_empty() {
+            return Err(Reason::TooShort);
+        }
+        let n = self.stations();
+        if n < 1 || 8 < n {
+            return Err(Reason::Stations);
+        }
+        check_end(self.bytes, self.form.record_bit(n, self.total()))
+    }
+
+    // The recording with the tables that its records are checked against, whose rows are laid.
+    fn tabled(self, rows: &'a [u16]) -> Tabled<'a>
+        requires { (1 ≤ n_of self) × RowsLaid self.form.lead self.form.width self.bytes.now rows.now }
+        ensures { result.packed ≡ self.entry }
+    {
+        let n = self.stations();
+        Tabled {
+            packed: self,
+            tables: Tables {
+                n: usize::from(n),
+                counts: self.counts(n),
+                firsts: self.firsts(n),
+                rows,
+            },
+        }
+    }
 }
 
-// The number of the first test of the whole that fails, 0 if none does. Stations' parts that are cut short are not looked for: the whole is too short
-// then, which has the same number.
-pub fn form_fault(lead: usize, w: usize, s: &[u8]) -> u16
-    requires { (4 ≤ lead) × (lead ≤ 8) × (w ≤ 9) }
-    ensures { result ≡ form_fault lead w s.now }
-{
-    if s.len() < 1 {
-        return 1;
-    }
-    let n = form::stations(lead, s);
-    if n < 1 {
-        return 2;
-    }
-    if 8 < n {
-        return 2;
-    }
-    end_fault(s, form::record_bit(lead, w, n, form::total(lead, w, s)))
+// A packed recording of one to eight stations, with the tables that its records are checked against.
+#[derive(Clone, Copy)]
+struct Tabled<'a> {
+    packed: Packed<'a>,
+    tables: Tables<'a>,
+    ghost laid: { Laid packed.form.lead packed.form.width packed.bytes.now tables.n tables.counts tables.firsts tables.rows.now },
 }
 
-// The same of the tests of a recording that ends at the bit b.
-pub fn end_fault(s: &[u8], b: usize) -> u16
-    requires { b ≤ 400000 }
-    ensures { result ≡ end_fault s.now b }
-{
-    let len = s.len();
-    let needed = (b + 7) / 8;
-    if len < needed {
-        return 1;
+impl<'a> Tabled<'a> {
+    // The first refusal among the records, station by station.
+    fn check_records(&self) -> Result<(), Refusal>
+        ensures { result ≡ checked_records (over self.now.packed recording_of) }
+    {
+        for p in 0..self.tables.n {
+            self.check_station(p)?;
+        }
+        Ok(())
     }
-    if needed < len {
-        return 3;
+
+    // The first refusal among the records of the station at place p.
+    fn check_station(&self, p: usize) -> Result<(), Refusal>
+        requires { p < self.now.tables.n }
+        ensures { result ≡ checked_station (over self.now.packed recording_of) p }
+    {
+        for e in 0..self.tables.counts[p] {
+            self.check_record(p, e)?;
+        }
+        Ok(())
     }
-    if bits::peek(s, b, 8 * needed - b) != 0 {
-        return 4;
+
+    // The refusal of event e + 1 of the station at place p, if any.
+    fn check_record(&self, p: usize, e: u16) -> Result<(), Refusal>
+        requires { (p < self.now.tables.n) × (e < at self.now.tables.counts p) }
+        ensures { result ≡ checked_record (over self.now.packed recording_of) p e }
+    {
+        let (station, event) = (p as u8 + 1, e + 1);
+        self.record_fault(p, e).map_err(|reason| Refusal {
+            reason,
+            station,
+            event,
+        })
     }
-    0
+
+    // The first test of that record that fails.
+    fn record_fault(&self, p: usize, e: u16) -> Result<(), Reason>
+        requires { (p < self.now.tables.n) × (e < at self.now.tables.counts p) }
+        ensures { result ≡ fault_at (over self.now.packed recording_of) p e }
+    {
+        let packed = self.packed;
+        let r = self.tables.firsts[p] + usize::from(e);
+        let start = packed.form.record_bit(self.tables.n as u8, r as u16);
+        let o = (bits::peek(packed.bytes, start, 4) % 16) as u8;
+        let k = bits::peek(packed.bytes, start + 4, packed.form.width);
+        self.tables
+            .message_fault(o, usize::from(k), p, usize::from(e))
+    }
 }
 
-// The first refusal among the records, station by station.
-pub fn scan_stations(lead: usize, w: usize, s: &[u8], rows: &[u16]) -> u16
-    requires { (4 ≤ lead) × (lead ≤ 8) × (1 ≤ w) × (w ≤ 9) × (1 ≤ n_at lead s.now) × RowsLaid lead w s.now rows.now }
-    ensures { checked_by result ≡ checked_records (recording_of lead w s.now) }
+// The first of the last tests of the whole that fails, where the recording ends at the bit `end`.
+fn check_end(s: &[u8], end: usize) -> Result<(), Reason>
+    requires { end ≤ 200000000 }
+    ensures { result ≡ end_fault s.now end }
 {
-    let n = form::stations(lead, s);
-    let m = form::counts(lead, w, s, n);
-    let firsts = form::firsts(lead, w, s, n);
-    let mut v: u16 = 0;
-    let mut p: usize = 0;
-    while p < n {
-        v = scan_events(lead, w, s, n, m, firsts, rows, p);
-        p = next(p, n, v);
+    let needed = bytes_for(end);
+    if s.len() < needed {
+        return Err(Reason::TooShort);
     }
-    v
-}
-
-// The first refusal among the records of the station at place p.
-pub fn scan_events(
-    lead: usize,
-    w: usize,
-    s: &[u8],
-    n: usize,
-    m: [u16; 8],
-    firsts: [usize; 9],
-    rows: &[u16],
-    p: usize,
-) -> u16
-    requires { (lead ≤ 8) × (w ≤ 9) × Laid lead w s.now n m firsts rows.now × (p < n) }
-    ensures { checked_by result ≡ checked_station (recording_of lead w s.now) p }
-{
-    let count = form::events(lead, w, s, n, p) as usize;
-    let mut v: u16 = 0;
-    let mut e: usize = 0;
-    while e < count {
-        v = record_fault(lead, w, s, n, m, firsts, rows, p, e);
-        e = next(e, count, v);
+    if needed < s.len() {
+        return Err(Reason::TooLong);
     }
-    v
-}
-
-// Where a scan goes on behind place i: the next place, or the end behind a refusal.
-pub fn next(i: usize, end: usize, v: u16) -> usize
-    requires { i < end }
-    ensures { result ≡ next_of i end v }
-{
-    if v != 0 {
-        return end;
+    if bits::peek(s, end, 8 * needed - end) != 0 {
+        return Err(Reason::Padding);
     }
-    i + 1
-}
-
-// The refusal of event e + 1 of the station at place p, if any.
-pub fn record_fault(
-    lead: usize,
-    w: usize,
-    s: &[u8],
-    n: usize,
-    m: [u16; 8],
-    firsts: [usize; 9],
-    rows: &[u16],
-    p: usize,
-    e: usize,
-) -> u16
-    requires { (lead ≤ 8) × (w ≤ 9) × Laid lead w s.now n m firsts rows.now × (p < n) × (e < events_at lead w s.now n p) }
-    ensures { checked_by result ≡ checked_record (recording_of lead w s.now) p e }
-{
-    let b = form::record_bit(lead, w, n, firsts[p] + e);
-    let o = (bits::peek(s, b, 4) % 16) as u8;
-    let k = bits::peek(s, b + 4, w) as usize;
-    of_record(faults::message_fault(n, m, firsts, rows, o, k, p, e), p, e)
-}
-
-// A fault of event e + 1 of the station at place p as a refusal.
-pub fn of_record(number: u8, p: usize, e: usize) -> u16
-    requires { (number < 8) × (p < 8) × (e < 511) }
-    ensures { checked_by result ≡ at_record p e number }
-{
-    if number == 0 {
-        return 0;
-    }
-    (4096 * (p + 1) + 8 * (e + 1) + number as usize) as u16
-}
-
-// The refusal that a number stands for.
-pub fn refusal(v: u16) -> Refusal
-    ensures { result ≡ refusal_by v }
-{
-    Refusal {
-        number: (v % 8) as u8,
-        station: (v / 4096) as u8,
-        event: v / 8 % 512,
-    }
+    Ok(())
 }

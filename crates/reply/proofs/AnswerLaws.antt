@@ -1,7 +1,9 @@
 -- The text printed of what `judge` promises is the text of the job's reply. In order: the lines of two verdicts; T, and the text that is printed; what a
 -- refused and an accepted reply tell of the job. Assumes nothing.
-use mathlib.Core.Path.{◌≡◌, refl, sym, ap, ap₂, ◌∙◌}
+use mathlib.Core.Path.{◌≡◌, refl, sym, ap, ap₂, subst, ◌∙◌}
 use mathlib.Core.Bool.{Bool, true, false, cond}
+use Rattle.std.specs.Prelude.{Result, Ok, Err, Some, None, option_map}
+use Rattle.std.specs.Prelude as rust
 use mathlib.Core.Option.{none, some}
 use mathlib.Core.List.{List, [], ◌∷◌, ◌++◌, map}
 use Prim.Native.Nat.{ℕ, suc, pred, ◌≤◌, ◌<◌}
@@ -15,30 +17,34 @@ use Rattle.cut.specs.Value.{counts_of, events_of}
 use Rattle.cut.specs.declared.Cut.{Cut}
 use Rattle.cuts.proofs.VerdictRight.{poss_right, poss_unique, def_right, def_unique}
 use Rattle.recording.specs.Form.{lead8, width8}
-use Rattle.recording.specs.Check.{at_whole, checked_of}
+use Rattle.recording.specs.Check.{checked_of}
+use Rattle.refusal.specs.Refusal.{Checked, number_of, at_whole}
+use Rattle.refusal.specs.declared.Refusal.{Refusal}
 use Rattle.recording.specs.Decode.{full_of}
-use Rattle.recording.specs.declared.Refusal.{Refusal}
-use Rattle.recording.specs.declared.Checked.{Checked}
-use Rattle.recording.proofs.CheckLaws.{accepted_not, or_else-accepted, at_whole-accepted}
+use Rattle.recording.proofs.CheckLaws.{or_else-accepted, at_whole-accepted}
 use Rattle.condition.specs.Condition.{refused_of}
 use Rattle.condition.proofs.ConditionRight.{refused_0}
 use Rattle.text.specs.Text.{refused_text, poss_text, def_text, verdict_text, Printed}
-use Rattle.engine.specs.Job.{part_of, m, L, checked_job, poss_in, def_in, Verdicts, Judged, refused, accepted}
+use Rattle.engine.specs.Job.{part_of, m, L, checked_job, counts_in, poss_in, def_in, Verdicts, Judged, refused, accepted}
 use Rattle.reply.specs.Answer.{poss_line, def_line, text_of}
-use Rattle.reply.specs.Told.{events_in, Tells}
-use Rattle.engine.specs.declared.Reply.{Reply}
+use Rattle.reply.specs.Told.{events_in, path_in, Tells}
+use Rattle.marks.specs.declared.Verdicts as marked
 use Rattle.engine.proofs.FullLaws.{total_full, total_le}
 use Rattle.engine.proofs.JudgeRight.{recording_accepted}
 
--- the line of "poss", by a flag and counts
-poss_line_lem : (b : Bool) (c : List ℕ) → poss_text b c ≡ poss_line (cond b (some c) none)
-unfolding poss_text
-poss_line_lem true c = refl
-poss_line_lem false c = refl
+abbrev Verdict : Type 0
+Verdict = marked.Verdicts
+
+abbrev Reply : Type 0
+Reply = Result Verdict Refusal
+
+-- the line of "poss", by a witness
+poss_line_lem : (w : rust.Option Cut) → poss_text (option_map counts_of w) ≡ poss_line (counts_in w)
+poss_line_lem None = refl
+poss_line_lem (Some w) = refl
 
 -- the line of "def", by a flag and station numbers
-def_line_lem : (b : Bool) (l : List ℕ) → (b ≡ false → map suc (map pred l) ≡ l) → def_text b l ≡ def_line (cond b none (some (map pred l)))
-unfolding def_text
+def_line_lem : (b : Bool) (l : List ℕ) → (b ≡ false → map suc (map pred l) ≡ l) → def_text (cond b None (Some l)) ≡ def_line (cond b none (some (map pred l)))
 def_line_lem true l h = refl
 def_line_lem false l h = rw (h refl) refl
 
@@ -53,44 +59,47 @@ unfolding events_in
 events_is job s full t e f h = rw (f, e) at h
 
 -- a text printed is that of the job
-pub printed_as : {a b before after : List ℕ} {r : ℕ} → a ≡ b → Printed a before r after → Printed b before r after
+pub printed_as : {a b before after : List ℕ} {r : rust.Option ℕ} → a ≡ b → Printed a before r after → Printed b before r after
 printed_as e p = rw e at p
 
 -- the part of the path room that is the path, and the two lines with it
-module _ (job : List ℕ) (r : Reply) (path : List ℕ) (t : ℕ) (tells : Tells job r path) (a : r.answer ≡ Checked.Accepted) (h : t ≡ events_in job) where
-  pub path_part : t ≡ length (take t path)
-  path_part = sym (length-take-le t path (omega (arith, h, tells.holds a)))
+module _ (job : List ℕ) (r : Reply) (path : List ℕ) (t : ℕ) (tells : Tells job r path) (v : Verdict) (a : r ≡ Ok v) (h : t ≡ events_in job) where
+  pub path_part : t ≤ length path
+  path_part = omega (arith, h, tells.holds v a)
 
-  pub verdicts_as : verdict_text r.poss (counts_of r.witness) r.def (take t path) ≡ text_of job
-  verdicts_as = rw h (tells.accepted a)
+  pub verdicts_yes : v.def ≡ true → verdict_text (option_map counts_of v.witness) None ≡ text_of job
+  verdicts_yes d = rw d at (tells.accepted v a)
+
+  pub verdicts_no : v.def ≡ false → verdict_text (option_map counts_of v.witness) (Some (take t path)) ≡ text_of job
+  verdicts_no d = rw (d, ← h) at (tells.accepted v a)
 
 module _ (job marks path : List ℕ) (r : Reply) (marks' path' : List ℕ) (long : length marks ≡ 65536) (long' : length path ≡ 4088) (judged : Judged job marks path r marks' path') where
   checks : (v : Checked) → checked_job job (length marks) (length path) ≡ v → checked_job job 65536 4088 ≡ v
   checks v e = rw (long, long') at e
 
   -- refused: the job is
-  refused_text_lem : (x : Refusal) → r.answer ≡ Checked.Refused x → refused_text x.number x.station x.event ≡ text_of job
+  refused_text_lem : (x : Refusal) → r ≡ Err x → refused_text (number_of x.reason) x.station x.event ≡ text_of job
   unfolding text_of
   refused_text_lem x a = go r marks' path' judged a
     where
-      go : (r : Reply) (marks' path' : List ℕ) → Judged job marks path r marks' path' → r.answer ≡ Checked.Refused x → refused_text x.number x.station x.event ≡ text_of job
-      go _ _ _ (refused e) a = sym (rw (checks _ e ∙ a) refl)
-      go _ _ _ (accepted e f v) a = absurd (accepted_not (sym f ∙ a))
+      go : (r : Reply) (marks' path' : List ℕ) → Judged job marks path r marks' path' → r ≡ Err x → refused_text (number_of x.reason) x.station x.event ≡ text_of job
+      go _ _ _ (refused {x = y} e) a = let z : y ≡ x = cc in sym (rw (checks _ e, z) refl)
+      go _ _ _ (accepted e v) a = let z : ◌≡◌ {A = ℕ} 0 1 = cc in absurd (omega arith)
 
-  module _ (a : r.answer ≡ Checked.Accepted) where
-    given : (checked_job job 65536 4088 ≡ Checked.Accepted) × Verdicts job marks path r marks' path'
+  module _ (v : Verdict) (a : r ≡ Ok v) where
+    given : (checked_job job 65536 4088 ≡ Ok tt) × Verdicts job marks path v marks' path'
     given = go r marks' path' judged a
       where
-        go : (r : Reply) (marks' path' : List ℕ) → Judged job marks path r marks' path' → r.answer ≡ Checked.Accepted → (checked_job job 65536 4088 ≡ Checked.Accepted) × Verdicts job marks path r marks' path'
-        go _ _ _ (refused e) a = absurd (accepted_not (sym a))
-        go _ _ _ (accepted e f v) a = (checks _ e, v)
+        go : (r : Reply) (marks' path' : List ℕ) → Judged job marks path r marks' path' → r ≡ Ok v → (checked_job job 65536 4088 ≡ Ok tt) × Verdicts job marks path v marks' path'
+        go _ _ _ (refused e) a = let z : ◌≡◌ {A = ℕ} 0 1 = cc in absurd (omega arith)
+        go _ a' b' (accepted {v = u} e w) a = let z : u ≡ v = cc in (checks _ e, subst (λ k. Verdicts job marks path k a' b') z w)
 
     -- accepted: there is a recording, and it is accepted
     answer_long : 38 ≤ length job
     unfolding checked_job
     answer_long = ((refused_0 job).0 (at_whole-accepted _ (or_else-accepted (at_whole (refused_of job)) _ given.0).0)).0
 
-    answer_accepts : checked_of lead8 width8 (part_of job) ≡ Checked.Accepted
+    answer_accepts : checked_of lead8 width8 (part_of job) ≡ Ok tt
     answer_accepts = recording_accepted job 65536 4088 given.0
 
     -- T, within the room of the path
@@ -101,16 +110,16 @@ module _ (job marks path : List ℕ) (r : Reply) (marks' path' : List ℕ) (long
     answer_room : events_in job ≤ length path'
     answer_room = omega (arith, answer_total, given.1.path_length, long', total_le (part_of job) _ answer_accepts refl)
 
-    accepted_text : verdict_text r.poss (counts_of r.witness) r.def (take (events_in job) path') ≡ text_of job
+    accepted_text : verdict_text (option_map counts_of v.witness) (path_in job v path') ≡ text_of job
     unfolding text_of verdict_text
     accepted_text =
-        let v = given.1 in
+        let w = given.1 in
         let t = events_in job in
-        let ep : poss_in r ≡ poss_of (L job) = poss_unique (L job) _ _ v.poss_is (poss_right (L job)) in
-        let ed : def_in (total (m job)) r path' ≡ def_of (L job) = def_unique (L job) _ _ v.def_is (def_right (L job)) in
-        let k : (r.def ≡ false → map suc (map pred (take t path')) ≡ take t path') =
-        λ d. suc_pred (take t path') (λ i h. rw (get_or-take t path' i 0 (omega (arith, length-take t path'))) (v.path_stations d i (omega (arith, answer_total, length-take t path')))) in
-        ap₂ (λ (x y : List ℕ). x ++ y) (poss_line_lem r.poss (counts_of r.witness)) (def_line_lem r.def (take t path') k) ∙ rw (given.0, ← ep, ← ed, answer_total) refl
+        let ep : poss_in v ≡ poss_of (L job) = poss_unique (L job) _ _ w.poss_is (poss_right (L job)) in
+        let ed : def_in (total (m job)) v path' ≡ def_of (L job) = def_unique (L job) _ _ w.def_is (def_right (L job)) in
+        let k : (v.def ≡ false → map suc (map pred (take t path')) ≡ take t path') =
+        λ d. suc_pred (take t path') (λ i h. rw (get_or-take t path' i 0 (omega (arith, length-take t path'))) (w.path_stations d i (omega (arith, answer_total, length-take t path')))) in
+        ap₂ (λ (x y : List ℕ). x ++ y) (poss_line_lem v.witness) (def_line_lem v.def (take t path') k) ∙ rw (given.0, ← ep, ← ed, answer_total) refl
 
   tells_long : Tells job r path'
   tells_long = record { refused = refused_text_lem; long = answer_long; holds = answer_room; accepted = accepted_text }

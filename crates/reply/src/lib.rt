@@ -6,30 +6,34 @@ ghost use Rattle.text.specs.Text.{Printed};
 ghost use Rattle.reply.specs.Answer.{text_of};
 ghost use Rattle.reply.specs.Told.{events_in, Tells};
 
-use engine::Reply;
-use recording::Checked;
+use marks::Verdicts;
+use refusal::Refusal;
 
-// The printed text of the reply to a job, into the front of the room; its length, 0 if the room is too short.
-pub fn answer(job: &[u8], room: &mut [u8]) -> usize
+// The printed text of the reply to a job, into the front of the room, and its length; None, and nothing is changed, where the room is too short.
+pub fn answer(job: &[u8], room: &mut [u8]) -> Option<usize>
     ensures { Printed (text_of job.now) room.old result room.new }
 {
     let mut marks = [0u8; 65536];
     let mut path = [0u8; 4088];
-    let r = engine::judge(job, &mut marks, &mut path);
-    print(job, r, &path, room)
+    let reply = engine::judge(job, &mut marks, &mut path);
+    print(job, reply, &path, room)
 }
 
 // The same of a reply, whose path is in the path room.
-fn print(job: &[u8], r: Reply, path: &[u8], room: &mut [u8]) -> usize
-    requires { Tells job.now r path.now }
+fn print(
+    job: &[u8],
+    reply: Result<Verdicts, Refusal>,
+    path: &[u8],
+    room: &mut [u8],
+) -> Option<usize>
+    requires { Tells job.now reply path.now }
     ensures { Printed (text_of job.now) room.old result room.new }
 {
-    let a = r.answer;
-    if let Checked::Refused(x) = a {
-        return text::refused(x.number, x.station, x.event, room);
+    match reply {
+        Err(x) => text::refused(x.reason.number(), x.station, x.event, room),
+        Ok(v) if v.def => text::verdicts(v.witness, None, room),
+        Ok(v) => text::verdicts(v.witness, Some(&path[..events_in(job)]), room),
     }
-    let t = events_in(job);
-    text::verdicts(r.poss, r.witness, r.def, &path[..t], room)
 }
 
 // T of a job's recording.

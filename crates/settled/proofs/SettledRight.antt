@@ -23,23 +23,25 @@ use Rattle.cut.specs.declared.Cut.{Cut}
 use Rattle.cuts.specs.Computed.{met, mark_of, tabled, walk, table, poss_of, def_of}
 use Rattle.cuts.proofs.TabledRight.{length_tabled}
 use Rattle.recording.specs.Form.{bytes_for, n_at, station_bit, record_size, record_bit, m_at, start_at, first_at, origin_at, number_at, level_at, count_at, event_of, recording_of, needed, padding, lead8, width8}
-use Rattle.recording.specs.Check.{fault_of, at_record, at_whole, scan_to, origin_ok, number_ok, stamp_ok, scan_records, checked_records, checked_of, refusal}
-use Rattle.recording.specs.declared.Checked.{Checked}
+use Rattle.std.specs.Prelude.{Ok, Err, Some, None}
+use Rattle.recording.specs.Check.{fault_of, scan_to, origin_ok, number_ok, stamp_ok, scan_records, checked_records, checked_of}
+use Rattle.refusal.specs.Refusal.{Tested, Checked, at_record, at_whole}
+use Rattle.marks.specs.Flat.{witness_in, cut_of_counts}
+use Rattle.marks.specs.declared.Verdicts.{Verdicts}
 use Rattle.condition.specs.Condition.{bound_of, between, lies, sum_asked, inside, holds_by, holds_of, raised_of, kind_at, k_at, low_at, high_at, asked_at, window_low, window_high, window_ok, condition_ok, kind_of, window_of, condition_of, refused_of}
-use Rattle.text.specs.Text.{decimal_to, numbers, poss_text, def_text}
-use Rattle.engine.specs.Job.{part_of, none_above, room_tests, C, m, L, checked_job, poss_in, Judged, refused, accepted}
+use Rattle.text.specs.Text.{decimal_to, numbers, line, poss_text, def_text}
+use Rattle.engine.specs.Job.{part_of, none_above, room_tests, C, m, L, checked_job, counts_in, poss_in, Judged, refused, accepted}
 use Rattle.reply.specs.Answer.{marks_room, path_room, poss_line, def_line, text_of}
-use Rattle.engine.specs.Computed.{given, evidence}
+use Rattle.engine.specs.Computed.{given, evidence, reply_of}
 use Rattle.engine.proofs.JudgeRight.{computed_verdicts, judged_unique}
 use Rattle.engine.proofs.RoomLaws.{room_0}
-use Rattle.engine.specs.declared.Reply.{Reply}
-use Rattle.settled.specs.Examples.{Answer, refuses, answers, Row, row, rows, input, output, reply_to, marks_of, path_of, events_of, text_to, laid, Settled, Each}
+use Rattle.settled.specs.Examples.{Answer, refuses, answers, Row, row, rows, input, output, reply_to, marks_of, path_of, events_of, refusal_to, told, text_to, laid, Settled, Each}
 
 -- what is computed of a row: the refusal number of its condition and the answer of its recording's checks; where it is not refused, whether no station
 -- above n is asked, the box is within its limit and T within the program's room; m, the marks and the verdicts; and of the evidence that the row states,
 -- the counts as they stand in a cut of eight, the length of the path (T if there is none), and its stations, each taken for its place and back
 record Found : Type 0 where
-  refusal_number : ℕ
+  refused : Tested
   checked : Checked
   asked : Bool
   small : Bool
@@ -54,7 +56,7 @@ record Found : Type 0 where
 
 abbrev found_of : List ℕ → Answer → Found
 found_of job (refuses k station event) = record {
-  refusal_number = refused_of job;
+  refused = refused_of job;
   checked = checked_of lead8 width8 (part_of job);
   asked = true;
   small = true;
@@ -68,7 +70,7 @@ found_of job (refuses k station event) = record {
   stations = [];
 }
 found_of job (answers m₀ poss def marks) = record {
-  refusal_number = refused_of job;
+  refused = refused_of job;
   checked = checked_of lead8 width8 (part_of job);
   asked = none_above (C job) (length (m job));
   small = leb (box (m job)) 65536;
@@ -90,8 +92,8 @@ places (some path) = some (map pred path)
 -- what it is to be
 abbrev wanted : Answer → Found
 wanted (refuses k station event) = record {
-  refusal_number = 0;
-  checked = refusal k station event;
+  refused = Ok tt;
+  checked = Err (refusal_to k station event);
   asked = true;
   small = true;
   short = true;
@@ -104,8 +106,8 @@ wanted (refuses k station event) = record {
   stations = [];
 }
 wanted (answers m₀ poss def marks) = record {
-  refusal_number = 0;
-  checked = Checked.Accepted;
+  refused = Ok tt;
+  checked = Ok tt;
   asked = true;
   small = true;
   short = true;
@@ -153,8 +155,8 @@ module _ (t : ℕ) (path : List ℕ) (fit : t ≤ length path) where
   laid_kept (some p) e = absurd (false≢true e)
 
 module _ (job m₀ marks : List ℕ) (poss def : Option (List ℕ)) (found : found_of job (answers m₀ poss def marks) ≡ wanted (answers m₀ poss def marks)) where
-  abbrev reply : Reply
-  reply = reply_to (answers m₀ poss def marks)
+  abbrev reply : Verdicts
+  reply = reply_of (length m₀) poss def
 
   abbrev t : ℕ
   t = total m₀
@@ -181,44 +183,48 @@ module _ (job m₀ marks : List ℕ) (poss def : Option (List ℕ)) (found : fou
   poss_found : poss_in reply ≡ poss_of (L job)
   poss_found = go poss witness_is ∙ sym (ap (λ f. f.poss) found)
     where
-      go : (o : Option (List ℕ)) → cond (given o) (take (length m₀) (tab 8 (at (evidence o)))) [] ≡ evidence o
-          → cond (given o) (some (take (length m₀) (tab 8 (at (evidence o))))) none ≡ o
+      go : (o : Option (List ℕ)) → cond (given o) (take (length m₀) (tab 8 (at (evidence o)))) [] ≡ evidence o → counts_in (witness_in (length m₀) o) ≡ o
       go none h = refl
       go (some c) h = ap some h
 
-  witness_found : reply.witness ≡ record { counts = tab 8 (at (cond reply.poss (counts_of reply.witness) [])); n = length (m job) }
-  witness_found = ap (cut (evidence poss)) (sym (ap length counts_are)) ∙ ap (λ c. cut c (length (m job))) (sym witness_is)
+  witness_found : (w : Cut) → reply.witness ≡ Some w → w ≡ record { counts = tab 8 (at (counts_of w)); n = length (m job) }
+  witness_found = go poss witness_is
     where
       cut : List ℕ → ℕ → Cut
       cut c n = record { counts = tab 8 (at c); n = n }
 
+      go : (o : Option (List ℕ)) → cond (given o) (take (length m₀) (tab 8 (at (evidence o)))) [] ≡ evidence o → (w : Cut) → witness_in (length m₀) o ≡ Some w → w ≡ record { counts = tab 8 (at (counts_of w)); n = length (m job) }
+      go none h w e = let z : ◌≡◌ {A = ℕ} 0 1 = cc in absurd (omega arith)
+      go (some c) h w e =
+          let z : w ≡ cut_of_counts (length m₀) c = cc in
+          rw z (ap (cut c) (sym (ap length counts_are)) ∙ ap (λ k. cut k (length (m job))) (sym h))
+
   -- it is accepted, in rooms of so many bytes
-  checked_found : (marks' path' : ℕ) → box (m job) ≤ marks' → total (m job) ≤ path' → checked_job job marks' path' ≡ Checked.Accepted
+  checked_found : (marks' path' : ℕ) → box (m job) ≤ marks' → total (m job) ≤ path' → checked_job job marks' path' ≡ Ok tt
   unfolding checked_job at_whole
-  checked_found marks' path' fit fit' = rw (ap (λ f. f.refusal_number) found, ap (λ f. f.checked) found, sym rooms) refl
+  checked_found marks' path' fit fit' = rw (ap (λ f. f.refused) found, ap (λ f. f.checked) found, sym rooms) refl
     where
-      rooms : 0 ≡ fault_of (room_tests (C job) (length (m job)) (box (m job)) (total (m job)) marks' path')
+      rooms : Ok tt ≡ fault_of (room_tests (C job) (length (m job)) (box (m job)) (total (m job)) marks' path')
       rooms = room_0 _ _ _ _ _ _ (ap (λ f. f.asked) found) (leb-true _ _ (ap (λ f. f.small) found)) fit fit'
 
   pub verdicts_printed : text_of job ≡ text_to (answers m₀ poss def marks)
   unfolding text_of
   verdicts_printed = rw (checked_found marks_room path_room (leb-true _ _ (ap (λ f. f.small) found)) (leb-true _ _ (ap (λ f. f.short) found)), ap (λ f. f.poss) found, ap (λ f. f.def) found) (lines poss def stations.1)
     where
-      lines : (o d : Option (List ℕ)) → map suc (map pred (evidence d)) ≡ evidence d → poss_line o ++ def_line (places d) ≡ poss_text (given o) (evidence o) ++ def_text (not (given d)) (evidence d)
+      lines : (o d : Option (List ℕ)) → map suc (map pred (evidence d)) ≡ evidence d → poss_line o ++ def_line (places d) ≡ poss_text (told o) ++ def_text (told d)
       lines none none h = refl
       lines (some c) none h = refl
-      lines none (some path) h = ap (λ l. poss_text false [] ++ def_text false l) h
-      lines (some c) (some path) h = ap (λ l. poss_text true c ++ def_text false l) h
+      lines none (some path) h = ap (λ l. poss_text None ++ def_text (Some l)) h
+      lines (some c) (some path) h = ap (λ l. poss_text (Some c) ++ def_text (Some l)) h
 
   module _ (room path : List ℕ) (fit : length marks ≤ length room) (fit' : total m₀ ≤ length path) where
     marks_found : laid marks room ≡ table (L job) ++ drop (box (m job)) room
     marks_found = rw (marks_are, box_is) refl
 
-    pub verdicts_permitted : Judged job room path reply (laid marks room) (laid (evidence def) path)
+    pub verdicts_permitted : Judged job room path (Ok reply) (laid marks room) (laid (evidence def) path)
     verdicts_permitted =
         accepted
         (checked_found (length room) (length path) (omega (arith, box_is)) (omega (arith, total_is)))
-        refl
         (computed_verdicts
         job
         room
@@ -242,12 +248,12 @@ permitted_by : (job : List ℕ) (a : Answer) → found_of job a ≡ wanted a →
     → Judged job marks path (reply_to a) (laid (marks_of a) marks) (laid (path_of a) path)
 unfolding checked_job at_whole
 permitted_by job (refuses k station event) found marks path fit fit' =
-    refused {x = record { number = k; station = station; event = event }} (rw (ap (λ f. f.refusal_number) found, ap (λ f. f.checked) found) refl)
+    refused {x = refusal_to k station event} (rw (ap (λ f. f.refused) found, ap (λ f. f.checked) found) refl)
 permitted_by job (answers m₀ poss def marks₀) found marks path fit fit' = verdicts_permitted job m₀ marks₀ poss def found marks path fit fit'
 
 printed_by : (job : List ℕ) (a : Answer) → found_of job a ≡ wanted a → text_of job ≡ text_to a
 unfolding text_of checked_job at_whole
-printed_by job (refuses k station event) found = rw (ap (λ f. f.refusal_number) found, ap (λ f. f.checked) found) refl
+printed_by job (refuses k station event) found = rw (ap (λ f. f.refused) found, ap (λ f. f.checked) found) refl
 printed_by job (answers m₀ poss def marks) found = verdicts_printed job m₀ marks poss def found
 
 settled_by : (job : List ℕ) (a : Answer) → found_of job a ≡ wanted a → Settled (row job a)
@@ -273,5 +279,5 @@ settled = settled_each rows found_each
 
 -- the whole example, byte for byte
 pub whole_example : text_of input ≡ output
-unfolding poss_text def_text numbers decimal_to
+unfolding poss_text def_text line numbers decimal_to
 whole_example = settled.0.printed ∙ refl

@@ -1,17 +1,18 @@
 -- The settled examples of document 01 that are marked P, 1 to 11, as one table: jobs of bytes, and the whole reply to each.
 -- In order: recordings and conditions as bytes; answers and rows; the table; the whole example; what an answer says; what is said of each row.
 -- `SettledRight` proves it.
-use Rattle.std.specs.Prelude.{◌≡◌, false, not, List, [], ◌∷◌, ◌++◌, ℕ, ◌≤◌, length, drop, replicate}
+use Rattle.std.specs.Prelude.{◌≡◌, List, [], ◌∷◌, ◌++◌, ℕ, ◌≤◌, length, drop, replicate, Result, Ok, Err, Some, None}
+use Rattle.std.specs.Prelude as rust
 use Rattle.std.proofs.Math.Option.{Option, none, some}
-use Rattle.cuts.specs.Below.{tab}
-use Rattle.cuts.specs.Cut.{at, total}
-use Rattle.recording.specs.Check.{refusal}
-use Rattle.recording.specs.declared.Checked.{Checked}
+use Rattle.cuts.specs.Cut.{total}
+use Rattle.refusal.specs.Refusal.{number_of}
+use Rattle.refusal.specs.declared.Reason.{Reason}
+use Rattle.refusal.specs.declared.Refusal.{Refusal}
+use Rattle.marks.specs.declared.Verdicts.{Verdicts}
 use Rattle.text.specs.Text.{refused_text, poss_text, def_text}
-use Rattle.engine.specs.Job.{Judged, no_cut}
+use Rattle.engine.specs.Job.{Judged}
 use Rattle.reply.specs.Answer.{text_of}
-use Rattle.engine.specs.Computed.{given, evidence}
-use Rattle.engine.specs.declared.Reply.{Reply}
+use Rattle.engine.specs.Computed.{evidence, reply_of}
 
 -- A: "start levels 0 and 0, station 1 steps to level 1 with stamp 1 0, station 2 receives from event 1 of station 1, level 1, stamp 1 1"
 abbrev A : List ℕ
@@ -60,7 +61,7 @@ together_of_none = condition 0x00 0x00 0x00 0x00 [] 32
 -- what is settled of a job: that it is "refused with number, station, event"; or its verdicts, on stations with m events each, and its marks in rank order.
 -- `poss` and `def` are none, or their evidence: the counts of the witness, the path as station numbers
 pub data Answer : Type 0 where
-  refuses : (number station event : ℕ) → Answer
+  refuses : (reason : Reason) (station event : ℕ) → Answer
   answers : (m : List ℕ) (poss def : Option (List ℕ)) (marks : List ℕ) → Answer
 
 -- "Poss at .." and "Poss no"; "Def yes" and "Def no, path .."
@@ -94,8 +95,8 @@ rows =
     ∷ row (together 0 1 ++ B) (answers (1 ∷ 1 ∷ []) (poss_at (0 ∷ 1 ∷ [])) (def_no (1 ∷ 2 ∷ [])) (3 ∷ 3 ∷ 1 ∷ 3 ∷ []))
     ∷ row (together_of_none ++ E) (answers (0 ∷ []) (poss_at (0 ∷ [])) def_yes (1 ∷ []))
     ∷ row (sum_of_none ++ E) (answers (0 ∷ []) poss_no (def_no []) (3 ∷ []))
-    ∷ row (sum ++ nine) (refuses 7 2 1)
-    ∷ row (sum ++ ten) (refuses 7 1 1)
+    ∷ row (sum ++ nine) (refuses Reason.Stamp 2 1)
+    ∷ row (sum ++ ten) (refuses Reason.Stamp 1 1)
     ∷ row (sum ++ eleven) (answers (1 ∷ 2 ∷ []) poss_no (def_no (1 ∷ 2 ∷ 2 ∷ [])) (3 ∷ 3 ∷ 0 ∷ 3 ∷ 0 ∷ 3 ∷ []))
     ∷ []
 
@@ -106,11 +107,14 @@ input = sum ++ A
 abbrev pub output : List ℕ
 output = 112 ∷ 111 ∷ 115 ∷ 115 ∷ 32 ∷ 121 ∷ 101 ∷ 115 ∷ 32 ∷ 49 ∷ 32 ∷ 48 ∷ 10 ∷ 100 ∷ 101 ∷ 102 ∷ 32 ∷ 121 ∷ 101 ∷ 115 ∷ 10 ∷ []
 
--- the reply that says so: "eight counts with the number of stations; counts beyond n are 0", all of them 0 where there is no witness
-abbrev pub reply_to : Answer → Reply
-reply_to (refuses k station event) = record { answer = refusal k station event; poss = false; witness = no_cut; def = false }
-reply_to (answers m poss def marks) =
-    record { answer = Checked.Accepted; poss = given poss; witness = record { counts = tab 8 (at (evidence poss)); n = length m }; def = not (given def) }
+-- the refusal that says so
+abbrev pub refusal_to : Reason → ℕ → ℕ → Refusal
+refusal_to k station event = record { reason = k; station = station; event = event }
+
+-- the reply that says so: "eight counts with the number of stations; counts beyond n are 0"
+abbrev pub reply_to : Answer → Result Verdicts Refusal
+reply_to (refuses k station event) = Err (refusal_to k station event)
+reply_to (answers m poss def marks) = Ok (reply_of (length m) poss def)
 
 -- what is in front of the room for marks, and of that for the path
 abbrev pub marks_of : Answer → List ℕ
@@ -126,10 +130,15 @@ abbrev pub events_of : Answer → ℕ
 events_of (refuses k station event) = 0
 events_of (answers m poss def marks) = total m
 
+-- evidence as the text takes it
+abbrev pub told : Option (List ℕ) → rust.Option (List ℕ)
+told none = None
+told (some l) = Some l
+
 -- the text that is printed of it
 abbrev pub text_to : Answer → List ℕ
-text_to (refuses k station event) = refused_text k station event
-text_to (answers m poss def marks) = poss_text (given poss) (evidence poss) ++ def_text (not (given def)) (evidence def)
+text_to (refuses k station event) = refused_text (number_of k) station event
+text_to (answers m poss def marks) = poss_text (told poss) ++ def_text (told def)
 
 -- a room with bytes laid into its front, otherwise unchanged
 abbrev pub laid : List ℕ → List ℕ → List ℕ
@@ -138,7 +147,7 @@ laid front room = front ++ drop (length front) room
 -- the reply of a row with its marks and its path is permitted by the promise of `judge`, and no other is
 pub record Settles (job : List ℕ) (a : Answer) (marks path : List ℕ) : Type 0 where
   pub permitted : Judged job marks path (reply_to a) (laid (marks_of a) marks) (laid (path_of a) path)
-  pub only : (r : Reply) (marks' path' : List ℕ) → Judged job marks path r marks' path'
+  pub only : (r : Result Verdicts Refusal) (marks' path' : List ℕ) → Judged job marks path r marks' path'
       → (r ≡ reply_to a) × (marks' ≡ laid (marks_of a) marks) × (path' ≡ laid (path_of a) path)
 
 -- so it is in all rooms that suffice, and the text of the promise of `answer` is the row's

@@ -1,246 +1,134 @@
-// The printed text of a reply, put into a lent room where it fits: its length first, then its pieces one after the other.
+// The printed text of a reply, put into a lent room where it fits: its length first, then its lines one after the other.
 #![tactic(auto)]
 
-ghost use Rattle.std.specs.Prelude.{◌≡◌, cond, ◌++◌, ◌+◌, ◌-◌, ◌≤◌, ◌<◌, min, length};
+ghost use Rattle.std.specs.Prelude.{◌≡◌, ◌+◌, ◌≤◌, ◌<◌, length, option_map, MatchOption, decimal};
 ghost use Rattle.cut.specs.Value.{counts_of};
-ghost use Rattle.text.specs.Text.{newline, numbers, poss_yes, poss_no, def_yes, def_no, refused_text, def_text, verdict_text, Printed};
-ghost use Rattle.text.specs.Written.{word_of, Measured, number, ended, line, Written, Offered};
+ghost use Rattle.text.specs.Text.{poss_text, def_text, refused_text, verdict_text, Printed};
+ghost use Rattle.text.specs.Written.{line_of, Written};
 
 use cut::Cut;
+use itoa::{Buffer, Integer};
 
-// A word that begins a line: the first n of its bytes.
+// A line: its word, then numbers with a space before each, then a newline.
 #[derive(Clone, Copy)]
-struct Word {
-    bytes: [u8; 8],
-    n: usize,
+struct Line<'a, T> {
+    word: &'a [u8],
+    numbers: &'a [T],
 }
 
-const REFUSED: Word = Word {
-    bytes: *b"refused ",
-    n: 7,
-};
-
-const POSS_YES: Word = Word {
-    bytes: *b"poss yes",
-    n: 8,
-};
-
-const POSS_NO: Word = Word {
-    bytes: *b"poss no ",
-    n: 7,
-};
-
-// A whole line, since no number stands behind it.
-const DEF_YES: Word = Word {
-    bytes: *b"def yes\n",
-    n: 8,
-};
-
-const DEF_NO: Word = Word {
-    bytes: *b"def no  ",
-    n: 6,
-};
-
-// The bytes of the second line, but for those of the path.
-const DEF_YES_LINE: usize = 8;
-
-const DEF_NO_LINE: usize = 7;
-
-// The line of a refusal and its length; 0, and nothing is changed, where the room is too short.
-pub fn refused(number: u8, station: u8, event: u16, room: &mut [u8]) -> usize
+// The line of a refusal and its length; None, and nothing is changed, where the room is too short.
+pub fn refused(number: u8, station: u8, event: u16, room: &mut [u8]) -> Option<usize>
     ensures { Printed (refused_text number station event) room.old result room.new }
 {
-    let values = [number as u16, station as u16, event];
-    let all = room.len();
-    put_line(room, all, REFUSED, &values)
+    let numbers = [u16::from(number), u16::from(station), event];
+    let line = Line {
+        word: b"refused",
+        numbers: &numbers,
+    };
+    line.left_of(room.len())?;
+    Some(line.put(room, 0))
 }
 
-// The two lines of verdicts and their length; 0, and nothing is changed, where the room is too short.
-pub fn verdicts(poss: bool, witness: Cut, def: bool, path: &[u8], room: &mut [u8]) -> usize
-    ensures { Printed (verdict_text poss (counts_of witness) def path.now) room.old result room.new }
+// The two lines of verdicts and their length; None, and nothing is changed, where the room is too short. The witness is there where Poss is yes,
+// the path where Def is no.
+pub fn verdicts(witness: Option<Cut>, path: Option<&[u8]>, room: &mut [u8]) -> Option<usize>
+    ensures { Printed (verdict_text (option_map counts_of witness) (option_map (λ p. p.now) path.entry)) room.old result room.new }
 {
-    let left = left_by_def(def, path, room.len());
-    let counts = witness.counts;
-    let n = shown(poss, witness.n);
-    let at = put_line(room, left, poss_word(poss), &counts[..n]);
-    match at {
-        0 => 0,
-        _ => {
-            let next = put_word(room, at, def_word(def));
-            match def {
-                true => next,
-                false => put_path(room, next, path),
-            }
+    let poss = poss_line(&witness);
+    let def = def_line(path);
+    let left = poss.left_of(room.len())?;
+    def.left_of(left)?;
+    let next = poss.put(room, 0);
+    Some(def.put(room, next))
+}
+
+// The first line.
+fn poss_line(witness: &Option<Cut>) -> Line<'_, u16>
+    ensures { line_of decimal result.word.now result.numbers.now ≡ poss_text (option_map counts_of witness.now) }
+{
+    match witness {
+        Some(cut) => witness_line(counts(cut)),
+        None => Line {
+            word: b"poss no",
+            numbers: &[],
+        },
+    }
+}
+
+// The counts of a cut: the first n, at most eight.
+fn counts(cut: &Cut) -> &[u16]
+    ensures { result.now ≡ counts_of cut.now }
+{
+    let n = usize::from(cut.n).min(8);
+    &cut.counts[..n]
+}
+
+// The first line of a witness.
+fn witness_line(counts: &[u16]) -> Line<'_, u16>
+    ensures { line_of decimal result.word.now result.numbers.now ≡ poss_text (Some counts.now) }
+{
+    Line {
+        word: b"poss yes",
+        numbers: counts,
+    }
+}
+
+// The second line.
+fn def_line(path: Option<&[u8]>) -> Line<'_, u8>
+    ensures { line_of decimal result.word.now result.numbers.now ≡ def_text (option_map (λ p. p.now) path.entry) }
+{
+    match path {
+        Some(stations) => path_line(stations),
+        None => Line {
+            word: b"def yes",
+            numbers: &[],
+        },
+    }
+}
+
+// The second line of a path.
+fn path_line(stations: &[u8]) -> Line<'_, u8>
+    ensures { line_of decimal result.word.now result.numbers.now ≡ def_text (Some stations.now) }
+{
+    Line {
+        word: b"def no",
+        numbers: stations,
+    }
+}
+
+impl<'a, T: Integer> Line<'a, T> {
+    // What the line leaves of as many bytes, None where it does not fit.
+    fn left_of(self, all: usize) -> Option<usize>
+        ensures { let bytes = length (line_of T.text self.entry.word.now self.entry.numbers.now) in
+            MatchOption result (all < bytes) (λ left. left + bytes ≡ all) }
+    {
+        let mut left = all.checked_sub(self.word.len() + 1)?;
+        for x in self.numbers {
+            left = left.checked_sub(1 + Buffer::new().format(*x).len())?;
         }
+        Some(left)
     }
-}
 
-// What the second line leaves of as many bytes for the first: none where it does not fit.
-fn left_by_def(def: bool, path: &[u8], all: usize) -> usize
-    ensures { result ≡ all - length (def_text def path.now) }
-{
-    match def {
-        true => less(all, DEF_YES_LINE),
-        false => left_by_path(path, less(all, DEF_NO_LINE)),
-    }
-}
-
-// A line at the front of the room, a word and then numbers, where it has no more bytes than are left; else 0, and nothing is changed.
-fn put_line(room: &mut [u8], left: usize, word: Word, values: &[u16]) -> usize
-    requires { (left ≤ length room.old) × Measured word × (length values.now ≤ 8) }
-    ensures { Offered (line (word_of word) values.now) left room.old result room.new }
-{
-    match left < word.n + numbers_length(values) {
-        true => 0,
-        false => {
-            let next = put_word(room, 0, word);
-            put_numbers(room, next, values)
+    // Puts the line at a place of a room where it fits; the place behind it.
+    fn put(self, room: &mut [u8], at: usize) -> usize
+        requires { at + length (line_of T.text self.word.now self.numbers.now) ≤ length room.old }
+        ensures { Written (line_of T.text self.entry.word.now self.entry.numbers.now) room.old at result room.new }
+    {
+        let mut next = put_bytes(room, at, self.word);
+        for x in self.numbers {
+            next = put_bytes(room, next, b" ");
+            next = put_bytes(room, next, Buffer::new().format(*x).as_bytes());
         }
+        put_bytes(room, next, b"\n")
     }
 }
 
-// The length of at most eight numbers with a space before each, and of the newline.
-fn numbers_length(values: &[u16]) -> usize
-    requires { length values.now ≤ 8 }
-    ensures { (result ≡ length (ended values.now)) × (result ≤ 49) }
+// Bytes as they stand.
+fn put_bytes(room: &mut [u8], at: usize, bytes: &[u8]) -> usize
+    requires { at + length bytes.now ≤ length room.old }
+    ensures { Written bytes.now room.old at result room.new }
 {
-    let mut sum: usize = 1;
-    let mut i: usize = 0;
-    while i < values.len() {
-        sum += number_length(values[i]);
-        i += 1;
-    }
-    sum
-}
-
-// What the stations of a path, a space before each, leave of as many bytes: none where they do not fit.
-fn left_by_path(path: &[u8], all: usize) -> usize
-    ensures { result ≡ all - length (numbers path.now) }
-{
-    let mut rest = all;
-    let mut i: usize = 0;
-    while i < path.len() {
-        rest = less(rest, number_length(path[i] as u16));
-        i += 1;
-    }
-    rest
-}
-
-// Numbers with a space before each, and a newline.
-fn put_numbers(room: &mut [u8], at: usize, values: &[u16]) -> usize
-    requires { at + length (ended values.now) ≤ length room.old }
-    ensures { Written (ended values.now) room.old at result room.new }
-{
-    let mut next = at;
-    let mut i: usize = 0;
-    while i < values.len() {
-        next = put_number(room, next, values[i]);
-        i += 1;
-    }
-    room[next] = b'\n';
-    next + 1
-}
-
-// The stations of a path with a space before each, and a newline.
-fn put_path(room: &mut [u8], at: usize, path: &[u8]) -> usize
-    requires { at + length (ended path.now) ≤ length room.old }
-    ensures { Written (ended path.now) room.old at result room.new }
-{
-    let mut next = at;
-    let mut i: usize = 0;
-    while i < path.len() {
-        next = put_number(room, next, path[i] as u16);
-        i += 1;
-    }
-    room[next] = b'\n';
-    next + 1
-}
-
-// A word.
-fn put_word(room: &mut [u8], at: usize, word: Word) -> usize
-    requires { Measured word × (at + word.n ≤ length room.old) }
-    ensures { Written (word_of word) room.old at result room.new }
-{
-    let bytes = word.bytes;
-    let n = word.n;
-    let mut i: usize = 0;
-    while i < n {
-        room[at + i] = bytes[i];
-        i += 1;
-    }
-    at + i
-}
-
-// The length of a number with its space.
-fn number_length(x: u16) -> usize
-    ensures { (result ≡ length (number x)) × (result ≤ 6) }
-{
-    let mut y = x;
-    let mut n: usize = 2;
-    while 10 <= y {
-        y = y / 10;
-        n += 1;
-    }
-    n
-}
-
-// A number with its space: its digits from the last to the first.
-fn put_number(room: &mut [u8], at: usize, x: u16) -> usize
-    requires { at + length (number x) ≤ length room.old }
-    ensures { Written (number x) room.old at result room.new }
-{
-    let next = at + number_length(x);
-    room[at] = b' ';
-    let mut y = x;
-    let mut last = next - 1;
-    while 10 <= y {
-        room[last] = b'0' + (y % 10) as u8;
-        y = y / 10;
-        last -= 1;
-    }
-    room[last] = b'0' + y as u8;
+    let next = at + bytes.len();
+    room[at..next].copy_from_slice(bytes);
     next
-}
-
-// The word of the first line.
-fn poss_word(poss: bool) -> Word
-    ensures { Measured result × (word_of result ≡ cond poss poss_yes poss_no) }
-{
-    match poss {
-        true => POSS_YES,
-        false => POSS_NO,
-    }
-}
-
-// The word of the second line.
-fn def_word(def: bool) -> Word
-    ensures { Measured result × (word_of result ≡ cond def (def_yes ++ newline) def_no) }
-{
-    match def {
-        true => DEF_YES,
-        false => DEF_NO,
-    }
-}
-
-// How many counts the first line shows: n, at most eight; none behind "poss no".
-fn shown(poss: bool, n: u8) -> usize
-    ensures { (result ≡ cond poss (min n 8) 0) × (result ≤ 8) }
-{
-    if poss {
-        if n < 8 {
-            return n as usize;
-        }
-        return 8;
-    }
-    0
-}
-
-// The difference, 0 where it would be below.
-fn less(x: usize, y: usize) -> usize
-    ensures { result ≡ x - y }
-{
-    if x < y {
-        return 0;
-    }
-    x - y
 }

@@ -14,7 +14,7 @@ use Rattle.cuts.proofs.StampRight.{seen_all}
 use Rattle.recording.specs.Recording.{Event, Recording, counts_of, messages, stamps, levels}
 use Rattle.recording.specs.Check.{record_tests, scan_records}
 use Rattle.writer.specs.Write.{Given, first_given, recording_given}
-use Rattle.recording.specs.declared.Checked.{Checked}
+use Rattle.std.specs.Prelude.{Ok}
 use Rattle.recording.proofs.CheckRight.{Names, Sound, writer_scan, sound_scan, scan_formed, scan_stamped}
 use Rattle.writer.proofs.GivenLaws.{stations_given, count_given, event_given, stamp_given}
 use Rattle.writer.proofs.CheckedGiven.{Accepts}
@@ -45,7 +45,7 @@ module _ (lead w : ℕ) (g : Given) (room : ℕ) (wide : 8 ≤ w) (bytes : (p : 
   sound : (p e : ℕ) → p < length (counts_of R) → e < at (counts_of R) p → Sound T S p e × (is_level (levels R p (suc e)) ≡ true)
   sound = writer_scan T S (λ p e. is_level (levels R p (suc e))) a.records
 
-  all_sound : scan_records T (record_tests T S) ≡ Checked.Accepted
+  all_sound : scan_records T (record_tests T S) ≡ Ok tt
   all_sound = sound_scan T S (λ p e hp he. (sound p e hp he).0)
 
   module _ (p e : ℕ) (hp : p < g.n) (he : e < at g.counts p) where

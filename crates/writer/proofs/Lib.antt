@@ -1,10 +1,10 @@
-pub mod PackLaws
 pub mod WriterLaws
-pub mod RoundTrip
-pub mod WriteAgain
+pub mod PackLaws
 pub mod GivenLaws
 pub mod GivenRight
 pub mod CheckedGiven
-pub mod PackRight
 pub mod FittingRight
+pub mod PackRight
+pub mod RoundTrip
+pub mod WriteAgain
 pub mod WriteRight

@@ -22,7 +22,8 @@ use Rattle.cuts.specs.Cut.{at}
 use Rattle.recording.specs.Form.{bytes_for, station_bit, record_bit}
 use Rattle.writer.specs.Write.{Given, first_given}
 use Rattle.writer.specs.Tables.{level_bits}
-use Rattle.writer.specs.Pack.{turns, put_padding, put_count, put_pair, put_record, station_turn, record_turn, put_ends, ended, stationed, pack_into}
+use Rattle.writer.proofs.WriterLaws.{level_bits-of}
+use Rattle.writer.specs.Pack.{turns, put_padding, put_count, put_pair, put_record, station_turn, record_turn, end_given, ended, stationed, pack_into}
 
 -- t is s but for bits from a on and before b
 pub record Kept (s t : List ℕ) (a b : ℕ) : Type 0 where
@@ -78,21 +79,21 @@ pub turns_none : (turn : ℕ → List ℕ → List ℕ) (s : List ℕ) → s ≡
 unfolding turns
 turns_none turn s = refl
 
--- a turn as the code makes it, of each of the three loops
+-- a turn as the code makes it, of the loops over counts and stations
 pub count_more : (w i q x : ℕ) (count : ℕ → ℕ) (s t : List ℕ) → x ≡ count q → t ≡ turns (put_count w i count) s q → put_of t (i + w * q) w x ≡ turns (put_count w i count) s (q + 1)
 unfolding put_count
 count_more w i q x count s t e h = rw e (turns_more (put_count w i count) s t q h)
 
-pub station_more : (lead w p i m bits : ℕ) (counts : List ℕ) (starts : List ℤ) (s t : List ℕ) → i ≡ station_bit lead w p → m ≡ at counts p → bits ≡ level_bits (get_or starts p (pos 0))
-    → t ≡ turns (station_turn lead w counts starts) s p → put_pair w i m bits t ≡ turns (station_turn lead w counts starts) s (p + 1)
+pub station_more : (lead w : ℕ) (g : Given) (p i m bits : ℕ) (s t : List ℕ) → i ≡ station_bit lead w p → m ≡ at g.counts p → bits ≡ level_bits (get_or g.starts p (pos 0))
+    → t ≡ turns (station_turn lead w g) s p → put_pair w i m bits t ≡ turns (station_turn lead w g) s (p + 1)
 unfolding station_turn
-station_more lead w p i m bits counts starts s t e₁ e₂ e₃ h = rw (e₁, e₂, e₃) (turns_more (station_turn lead w counts starts) s t p h)
+station_more lead w g p i m bits s t e₁ e₂ e₃ h = rw (e₁, e₂, e₃) (turns_more (station_turn lead w g) s t p h)
 
-pub record_more : (lead w n r i o k bits : ℕ) (origins numbers : List ℕ) (levels : List ℤ) (stamps s t : List ℕ)
-    → i ≡ record_bit lead w n r → o ≡ at origins r → k ≡ at numbers r → bits ≡ level_bits (get_or levels r (pos 0)) → t ≡ turns (record_turn lead w n origins numbers levels stamps) s r
-    → put_record w i o k bits (λ q. at stamps (r * n + q)) n t ≡ turns (record_turn lead w n origins numbers levels stamps) s (r + 1)
-unfolding record_turn
-record_more lead w n r i o k bits origins numbers levels stamps s t e₁ e₂ e₃ e₄ h = rw (e₁, e₂, e₃, e₄) (turns_more (record_turn lead w n origins numbers levels stamps) s t r h)
+pub record_is : (lead w : ℕ) (g : Given) (r i o k bits : ℕ) (s t u x : List ℕ)
+    → i ≡ record_bit lead w g.n r → o ≡ at g.origins r → k ≡ at g.numbers r → bits ≡ level_bits (get_or g.levels r (pos 0)) → t ≡ put_of s i 4 o → u ≡ put_pair w (i + 4) k bits t
+    → x ≡ turns (put_count w (i + 16 + w) (λ q. at g.stamps (r * g.n + q))) u g.n → x ≡ record_turn lead w g r s
+unfolding record_turn put_record put_pair
+record_is lead w g r i o k bits s t u x e₁ e₂ e₃ e₄ e₅ e₆ e₇ = rw (e₇, e₆, e₅, e₁, e₂, e₃, e₄) refl
 
 -- turns of which number j changes only bits from b j on and before b (j + 1)
 module _ (turn : ℕ → List ℕ → List ℕ) (b : ℕ → ℕ) (up : (j : ℕ) → b j ≤ b (suc j)) (kept : (j : ℕ) (s : List ℕ) → Kept s (turn j s) (b j) (b (suc j))) (s : List ℕ) where
@@ -122,14 +123,14 @@ module _ (turn : ℕ → List ℕ → List ℕ) (b : ℕ → ℕ) (up : (j : ℕ
       (rw e at (kept_later (suc j) (n - suc j))).beside i k (inl l)
 
 -- the ends, and the whole, as the code makes them
-pub ends_are : (lead w n t i k : ℕ) (s b c : List ℕ) → i ≡ record_bit lead w n t → k ≡ bytes_for i → b ≡ put_of s (lead - 4) 4 n → c ≡ put_of b i (8 * k - i) 0 → c ≡ put_ends lead w n t s
-unfolding put_ends put_padding
-ends_are lead w n t i k s b c ei ek eb ec = rw (ec, ek, ei, eb) refl
+pub ends_are : (lead w : ℕ) (g : Given) (i k : ℕ) (s b c : List ℕ) → i ≡ end_given lead w g → k ≡ bytes_for i → b ≡ put_of s (lead - 4) 4 g.n → c ≡ put_of b i (8 * k - i) 0 → c ≡ ended lead w g s
+unfolding ended put_padding
+ends_are lead w g i k s b c ei ek eb ec = rw (ec, ek, ei, eb) refl
 
-pub pack_is : (lead w : ℕ) (g : Given) (s b c : List ℕ) (t : ℕ) → t ≡ first_given g g.n → b ≡ turns (station_turn lead w g.counts g.starts) (put_ends lead w g.n t s) g.n
-    → c ≡ turns (record_turn lead w g.n g.origins g.numbers g.levels g.stamps) b t → c ≡ pack_into lead w g s
-unfolding pack_into stationed ended
-pack_is lead w g s b c t et eb ec = rw (ec, eb, et) refl
+pub pack_is : (lead w : ℕ) (g : Given) (s a b c : List ℕ) → a ≡ ended lead w g s → b ≡ turns (station_turn lead w g) a g.n → c ≡ turns (record_turn lead w g) b (first_given g g.n)
+    → c ≡ pack_into lead w g s
+unfolding pack_into stationed
+pack_is lead w g s a b c ea eb ec = rw (ec, eb, ea) refl
 
 module _ (w i : ℕ) (count : ℕ → ℕ) where
   kept_count : (q : ℕ) (s : List ℕ) → Kept s (put_count w i count q s) (i + w * q) (i + w * suc q)
@@ -156,8 +157,7 @@ module _ (w i : ℕ) (count : ℕ → ℕ) where
 
 -- a level's bits read back
 pub put_level : (s : List ℕ) (i bits : ℕ) (v : ℤ) → bits ≡ level_bits v → i + 12 ≤ 8 * length s → is_level v ≡ true → twos 12 (field (put_of s i 12 bits) i 12) ≡ v
-unfolding level_bits
-put_level s i bits v e h l = rw (e, l) (ap (twos 12) (put_field s i 12 (bits_of 12 v) (omega arith) (omega arith) h (level_bits_lem v l)) ∙ level_field v l)
+put_level s i bits v e h l = rw (e, level_bits-of v l) (ap (twos 12) (put_field s i 12 (bits_of 12 v) (omega arith) (omega arith) h (level_bits_lem v l)) ∙ level_field v l)
 
 -- a station's part
 module _ (w i m bits : ℕ) (s : List ℕ) where

@@ -19,8 +19,8 @@ use Rattle.cuts.proofs.BelowLaws.{sum_to-same, tab_same}
 use Rattle.recording.specs.Form.{bytes_for, station_bit, record_size, record_bit, n_at, m_at, start_at, first_at, origin_at, number_at, level_at, count_at, event_of, recording_of, needed, padding}
 use Rattle.writer.specs.Write.{Given, first_given, given, recording_given, needed_given, checked_given, Packs}
 use Rattle.writer.specs.Tables.{level_bits}
-use Rattle.writer.specs.Pack.{turns, put_pair, put_record, station_turn, record_turn, put_ends, ended, stationed, pack_into}
-use Rattle.recording.specs.declared.Checked.{Checked}
+use Rattle.writer.specs.Pack.{turns, put_pair, put_record, station_turn, record_turn, ended, stationed, pack_into}
+use Rattle.std.specs.Prelude.{Ok}
 use Rattle.writer.proofs.CheckedGiven.{accepts}
 use Rattle.writer.proofs.FittingRight.{Fitting, accepts_fitting}
 use Rattle.writer.proofs.GivenLaws.{first_part}
@@ -38,10 +38,10 @@ module _ (lead w : ℕ) (g : Given) (room : List ℕ) where
   end = record_bit lead w n T
 
   abbrev turn_station : ℕ → List ℕ → List ℕ
-  turn_station = station_turn lead w g.counts g.starts
+  turn_station = station_turn lead w g
 
   abbrev turn_record : ℕ → List ℕ → List ℕ
-  turn_record = record_turn lead w n g.origins g.numbers g.levels g.stamps
+  turn_record = record_turn lead w g
 
   first_station : station_bit lead w 0 ≡ lead
   unfolding station_bit
@@ -94,7 +94,7 @@ module _ (lead w : ℕ) (g : Given) (room : List ℕ) where
   named = put_of room (lead - 4) 4 n
 
   kept_padded : Kept named (ended lead w g room) end (8 * needed_given lead w g)
-  unfolding ended put_ends needed_given
+  unfolding ended needed_given
   kept_padded = kept_padding end named
 
   kept_stationed : Kept (ended lead w g room) (stationed lead w g room) lead (station_bit lead w n)
@@ -214,7 +214,7 @@ module _ (lead w : ℕ) (g : Given) (room : List ℕ) where
 
       -- zero bits
       padding_back : field t end (8 * needed_given lead w g - end) ≡ 0
-      unfolding ended put_ends needed_given
+      unfolding ended needed_given
       padding_back = after_ended.beside end _ (inr (le_refl end)) ∙ padding_field end named (rw kept_named.long (omega (arith, enough)))
 
       -- the bytes that are filled, and the fields of these
@@ -289,7 +289,7 @@ pub record Packed (lead w : ℕ) (g : Given) (room after : List ℕ) : Type 0 wh
 
 module _ (lead w : ℕ) (g : Given) (room : List ℕ) (leads : 4 ≤ lead) (wide : 8 ≤ w) (high : w ≤ 16)
     (bytes : (i : ℕ) → at g.counts i < 256) (room-bytes : (i : ℕ) → get_or room i 0 < 256) where
-  pub packs_given : checked_given lead w g (length room) ≡ Checked.Accepted → Packed lead w g room (pack_into lead w g room)
+  pub packs_given : checked_given lead w g (length room) ≡ Ok tt → Packed lead w g room (pack_into lead w g room)
   packs_given h =
       let a = accepts lead w g (length room) h in
       let fit = accepts_fitting lead w g (length room) wide bytes a in

@@ -18,12 +18,14 @@ use Rattle.cuts.specs.Cut.{at}
 use Rattle.cuts.proofs.BelowLaws.{sum_to-same, tab_same, length_tab, get_d-tab, true_every}
 use Rattle.recording.specs.Recording.{Recording, counts_of, messages, stamps, levels}
 use Rattle.recording.specs.Form.{n_at, m_at, start_at, first_at, level_at, count_at, event_of, recording_of, bytes_for, record_bit, needed, lead8, width8}
-use Rattle.recording.specs.declared.Checked.{Checked}
-use Rattle.writer.specs.declared.Written.{Written}
+use Rattle.std.specs.Prelude.{Result, Ok}
+use Rattle.refusal.specs.Refusal.{at_whole, at_record}
+use Rattle.refusal.specs.declared.Reason.{Reason}
+use Rattle.refusal.specs.declared.Refusal.{Refusal}
 use Rattle.writer.specs.Write.{Given, given, first_given, recording_given, long_enough, not_longer, given_tests, writer_tests, checked_given, needed_given, Packs, Wrote, done, refused}
-use Rattle.recording.specs.Check.{test, fault_of, at_record, record_tests, scan_records, checked_records, checked_of}
+use Rattle.recording.specs.Check.{test, fault_of, record_tests, scan_records, checked_records, checked_of}
 use Rattle.writer.specs.Again.{lists_of}
-use Rattle.recording.proofs.CheckLaws.{no_test, and_then, pass_fault, accepted_not, at_record-0, at_whole-0, scan_all}
+use Rattle.recording.proofs.CheckLaws.{no_test, and_then, pass_fault, scan_all}
 use Rattle.recording.proofs.AcceptedRight.{Accepts, accepted_accepts, accepts_accepted}
 use Rattle.writer.proofs.RoundTrip.{packs_same}
 use Rattle.recording.proofs.CheckRight.{scan_sound, sound_writer, writer_scan, sound_scan}
@@ -103,7 +105,7 @@ module _ (lead w : ℕ) (s : List ℕ) where
   first_all = first_list n (le_refl n)
 
   -- what was read passes the writer's tests before the records
-  lists_pass : 1 ≤ n → n ≤ 8 → fault_of (given_tests g) ≡ 0
+  lists_pass : 1 ≤ n → n ≤ 8 → fault_of (given_tests g) ≡ Ok tt
   unfolding lists_of start_at
   lists_pass a b = pass_fault (and_then within (and_then just.0 (and_then just.1 (and_then levelled no_test))))
     where
@@ -119,11 +121,11 @@ module _ (lead w : ℕ) (s : List ℕ) where
       levelled = true_every n _ (λ p h. ap is_level (get_d-tab n (start_at lead w s) (pos 0) p h) ∙ twos_level _ (field_lt s _ 12))
 
   -- and, where its records pass the reader's tests, the writer's too
-  records_pass : scan_records (messages R) (record_tests (messages R) (stamps R)) ≡ Checked.Accepted → scan_records (messages R) (writer_tests R) ≡ Checked.Accepted
-  unfolding scan_records
-  records_pass h = scan_all _ (length (counts_of R)) (λ p hp. scan_all _ (at (counts_of R) p) (λ e he. ap (at_record p e) (passes p e hp he) ∙ at_record-0 p e))
+  records_pass : scan_records (messages R) (record_tests (messages R) (stamps R)) ≡ Ok tt → scan_records (messages R) (writer_tests R) ≡ Ok tt
+  unfolding scan_records at_record
+  records_pass h = scan_all _ (length (counts_of R)) (λ p hp. scan_all _ (at (counts_of R) p) (λ e he. rw (passes p e hp he) refl))
     where
-      passes : (p e : ℕ) → p < length (counts_of R) → e < at (counts_of R) p → fault_of (writer_tests R p e) ≡ 0
+      passes : (p e : ℕ) → p < length (counts_of R) → e < at (counts_of R) p → fault_of (writer_tests R p e) ≡ Ok tt
       passes p e hp he = sound_writer (messages R) (stamps R) p e _ (scan_sound (messages R) (stamps R) h p e hp he) (level_lists p e (rw (stations_read lead w s) at hp) (rw (count_read lead w s p (rw (stations_read lead w s) at hp)) at he))
 
   needed_lists : needed_given lead w g ≡ needed lead w s
@@ -131,21 +133,21 @@ module _ (lead w : ℕ) (s : List ℕ) where
   needed_lists = ap (λ (t : ℕ). bytes_for (record_bit lead w n t)) first_all
 
   -- the writer accepts what was read, in a room that has its bytes
-  pub lists_accepted : (room : ℕ) → checked_of lead w s ≡ Checked.Accepted → needed lead w s ≤ room → checked_given lead w g room ≡ Checked.Accepted
-  unfolding checked_given checked_records
+  pub lists_accepted : (room : ℕ) → checked_of lead w s ≡ Ok tt → needed lead w s ≤ room → checked_given lead w g room ≡ Ok tt
+  unfolding checked_given checked_records at_whole
   lists_accepted room h k =
       let a = accepted_accepts lead w s h in
-      let whole : fault_of (given_tests g) ≡ 0 = lists_pass a.n_least a.n_most in
-      let each : scan_records (messages (recording_given g)) (writer_tests (recording_given g)) ≡ Checked.Accepted = rw lists_recording (records_pass a.records) in
-      let roomy : fault_of (test 13 (leb (needed_given lead w g) room) ∷ []) ≡ 0 = pass_fault (and_then (le-leb (needed_given lead w g) room (rw needed_lists k)) no_test) in
-      rw (whole, at_whole-0, each, roomy) at_whole-0
+      let whole : fault_of (given_tests g) ≡ Ok tt = lists_pass a.n_least a.n_most in
+      let each : scan_records (messages (recording_given g)) (writer_tests (recording_given g)) ≡ Ok tt = rw lists_recording (records_pass a.records) in
+      let roomy : fault_of (test Reason.Room (leb (needed_given lead w g) room) ∷ []) ≡ Ok tt = pass_fault (and_then (le-leb (needed_given lead w g) room (rw needed_lists k)) no_test) in
+      rw (whole, each, roomy) refl
 
   -- the bytes of an accepted recording pack it
-  pub read_packs : ((i : ℕ) → get_or s i 0 < 256) → checked_of lead w s ≡ Checked.Accepted → Packs lead w R s
+  pub read_packs : ((i : ℕ) → get_or s i 0 < 256) → checked_of lead w s ≡ Ok tt → Packs lead w R s
   read_packs b h = let a = accepted_accepts lead w s h in record { bytes = b; fields = refl; just_needed = a.just_needed; padded = a.padded }
 
 -- a packing of what the writer accepted is accepted by the reader
-packed_accepts : (lead w : ℕ) (g : Given) (s : List ℕ) (room : ℕ) → checked_given lead w g room ≡ Checked.Accepted → Packs lead w (recording_given g) s → Accepts lead w s
+packed_accepts : (lead w : ℕ) (g : Given) (s : List ℕ) (room : ℕ) → checked_given lead w g room ≡ Ok tt → Packs lead w (recording_given g) s → Accepts lead w s
 unfolding checked_records
 packed_accepts lead w g s room h p =
     let a = accepts lead w g room h in
@@ -161,15 +163,15 @@ packed_accepts lead w g s room h p =
     n_is = sym (stations_read lead w s) ∙ ap (λ (R : Recording). length (counts_of R)) p.fields ∙ stations_given g
 
 -- an accepted recording, read and written again: every reply that the writer's promise permits is these bytes in front of the room
-pub written_again : (s room after : List ℕ) (r : Written) → ((i : ℕ) → get_or s i 0 < 256) → checked_of lead8 width8 s ≡ Checked.Accepted → length s ≤ length room
-    → Wrote lead8 width8 (lists_of lead8 width8 s) room after r → (r ≡ Written.Done (length s)) × (after ≡ s ++ drop (length s) room)
-written_again s room after r b h k (refused x e) = absurd (accepted_not (sym (lists_accepted 4 8 s (length room) h (rw (accepted_accepts 4 8 s h).just_needed at k)) ∙ x))
-written_again s room after r b h k (done {s = t} x p e) = (ap (λ (l : List ℕ). Written.Done (length l)) same, e ∙ ap (λ (l : List ℕ). l ++ drop (length l) room) same)
+pub written_again : (s room after : List ℕ) (r : Result ℕ Refusal) → ((i : ℕ) → get_or s i 0 < 256) → checked_of lead8 width8 s ≡ Ok tt → length s ≤ length room
+    → Wrote lead8 width8 (lists_of lead8 width8 s) room after r → (r ≡ Ok (length s)) × (after ≡ s ++ drop (length s) room)
+written_again s room after r b h k (refused x e) = let y = sym (lists_accepted 4 8 s (length room) h (rw (accepted_accepts 4 8 s h).just_needed at k)) ∙ x in cc
+written_again s room after r b h k (done {s = t} x p e) = (ap (λ (l : List ℕ). Ok (length l)) same, e ∙ ap (λ (l : List ℕ). l ++ drop (length l) room) same)
   where
     same : t ≡ s
     same = packs_same 8 (recording_of 4 8 s) t s (rw (lists_recording 4 8 s) at p) (read_packs 4 8 s b h)
 
 -- written values read back the same: what the writer leaves in front of the room is a recording that the reader accepts, and its value is the one handed in
-pub written_read : (g : Given) (room after : List ℕ) (k : ℕ) → Wrote lead8 width8 g room after (Written.Done k)
-    → (s : List ℕ) × (after ≡ s ++ drop k room) × (length s ≡ k) × (checked_of lead8 width8 s ≡ Checked.Accepted) × (recording_of lead8 width8 s ≡ recording_given g)
+pub written_read : (g : Given) (room after : List ℕ) (k : ℕ) → Wrote lead8 width8 g room after (Ok k)
+    → (s : List ℕ) × (after ≡ s ++ drop k room) × (length s ≡ k) × (checked_of lead8 width8 s ≡ Ok tt) × (recording_of lead8 width8 s ≡ recording_given g)
 written_read g room after k (done {s = s} x p e) = (s, e, refl, accepts_accepted 4 8 s (packed_accepts 4 8 g s (length room) x p), p.fields)

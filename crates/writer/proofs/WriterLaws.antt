@@ -1,14 +1,12 @@
--- Laws of the writer's small steps, one for each `return`. In order: a level's bits; signed numbers; products; the table of stamps; the lists' lengths; the
--- tests before the records; the level's test; a refusal as one number. Assumes nothing.
-use mathlib.Core.Path.{◌≡◌, refl, sym, ◌∙◌}
-use mathlib.Core.Bool.{Bool, true, false, ◌&&◌, ◌||◌, cond}
-use mathlib.Core.Logic.{◌⊎◌, inl, inr}
-use mathlib.Core.List.{List}
-use Prim.Native.Nat.{ℕ, ◌+◌, ◌-◌, ◌*◌, ◌/◌, ◌%◌, ◌≤◌, ◌<◌}
-use native.Mathlib.Nat.{mul-le-mul}
-use native.Mathlib.Decide.{dec_le}
+-- Laws of the writer's small steps. In order: a level's bits; signed numbers; the lists' lengths; all levels; the level's test.
+-- Assumes nothing.
+use mathlib.Core.Path.{◌≡◌, refl, sym, ap, ◌∙◌}
+use mathlib.Core.Bool.{Bool, true, false, ◌&&◌, ◌||◌, not, cond}
+use mathlib.Core.List.{List, [], ◌∷◌}
+use Prim.Native.Nat.{ℕ, zero, suc, ◌*◌, ◌≤◌, ◌<◌}
+use native.Mathlib.Decide.{dec_lt}
 use native.Mathlib.Omega.{arith}
-use lib.Dec.{leb, ltb, eqb}
+use lib.Dec.{leb, ltb}
 use lib.IntN.{ℤ, pos}
 use lib.ListN.{length, get_or}
 use lib.Signed.{mag}
@@ -16,235 +14,123 @@ use mir.Syntax.{w16}
 use mir.Val.{to_z, of_z}
 use mir.Facts.{to_z-of_z}
 use borrow.Author.Rules.{sfits_of}
-use borrow.Author.Tests.{leb-true, le-leb, lt-leb, lt-ltb, le-ltb, eq-eqb, ne_eqb}
+use borrow.Author.Tests.{le-leb, lt-leb, lt-ltb, le-ltb}
+use Rattle.std.specs.Prelude.{Ok, Err, is_some, Some, None}
+use Rattle.std.specs.List.{list_any, list_all}
 use Rattle.levels.specs.Level.{bits_of, is_level, field_of}
-use Rattle.levels.specs.declared.Fitted.{Fitted}
-use Rattle.levels.proofs.LevelLaws.{level_bits_lem}
-use Rattle.cuts.specs.Cut.{at}
-use Rattle.cuts.specs.Below.{every, sum_to}
-use Rattle.cuts.proofs.BelowLaws.{and_true, or_right}
-use Rattle.cuts.proofs.ReplyLaws.{refuted}
-use Rattle.recording.specs.Check.{refusal}
-use Rattle.faults.specs.Fault.{table_fault}
-use Rattle.writer.specs.Tables.{code_of, refusal_of, answer_of, length_fault, lengths_fault, whole_fault, level_bits, level_fault, given_fault, given_cell}
-use Rattle.recording.specs.declared.Checked.{Checked}
+use Rattle.cuts.specs.Below.{every}
+use Rattle.cuts.proofs.BelowLaws.{or_right, every_same}
+use Rattle.refusal.specs.Refusal.{Tested}
+use Rattle.recording.specs.Check.{test, fault_of}
+use Rattle.refusal.specs.declared.Reason.{Reason}
+use Rattle.writer.specs.Write.{Given, first_given, long_enough, not_longer, lengths_tests}
+use Rattle.writer.specs.Tables.{level_bits, before_level, level_fault}
 
--- what the reply to a number says of its bits
-pub field_bits : (v : ℤ) (x : ℕ) → field_of v ≡ Fitted.Field x → level_bits v ≡ x
-unfolding field_of level_bits
-field_bits v x h = go (is_level v) h
-  where
-    go : (b : Bool) → cond b (Fitted.Field (bits_of 12 v)) Fitted.Out ≡ Fitted.Field x → cond b (bits_of 12 v) 4096 ≡ x
-    go true k = cc
-    go false k = absurd (let z : ◌≡◌ {A = ℕ} 0 1 = cc in omega arith)
+-- the bits of a level are those that stand for it, and only a level has any
+pub level_bits-of : (v : ℤ) → is_level v ≡ true → level_bits v ≡ bits_of 12 v
+unfolding level_bits field_of
+level_bits-of v h = rw h refl
 
-pub out_bits : (v : ℤ) → field_of v ≡ Fitted.Out → level_bits v ≡ 4096
-unfolding field_of level_bits
-out_bits v h = go (is_level v) h
-  where
-    go : (b : Bool) → cond b (Fitted.Field (bits_of 12 v)) Fitted.Out ≡ Fitted.Out → cond b (bits_of 12 v) 4096 ≡ 4096
-    go true k = absurd (let z : ◌≡◌ {A = ℕ} 0 1 = cc in omega arith)
-    go false k = refl
-
-pub zero_bits : 0 ≡ level_bits (pos 0)
-unfolding level_bits is_level bits_of
-zero_bits = refl
-
--- bits below 4,096 are a level's
-pub level_within : (v : ℤ) → ltb (level_bits v) 4096 ≡ is_level v
-unfolding level_bits
-level_within v = go (is_level v) refl
-  where
-    go : (b : Bool) → is_level v ≡ b → ltb (cond b (bits_of 12 v) 4096) 4096 ≡ b
-    go true e = lt-ltb (bits_of 12 v) 4096 (level_bits_lem v e)
-    go false e = refl
-
-pub bits_level : (v : ℤ) (b : ℕ) → b ≡ level_bits v → b < 4096 → is_level v ≡ true
-bits_level v b e h = sym (level_within v) ∙ lt-ltb _ _ (rw e at h)
-
-pub bits_none : (v : ℤ) (b : ℕ) → b ≡ level_bits v → 4096 ≤ b → is_level v ≡ false
-bits_none v b e h = sym (level_within v) ∙ le-ltb _ _ (rw e at h)
+pub level_some : (v : ℤ) → is_some (field_of v) ≡ is_level v
+unfolding field_of
+level_some v = elim (is_level v) as (λ b. is_some (cond b (Some (bits_of 12 v)) None) ≡ b) [ true ↦ refl | false ↦ refl ]
 
 -- a signed number as the machine holds it
 pub held_signed : (z : ℤ) → mag z < 32768 → to_z w16 (of_z w16 z) ≡ z
 held_signed z h = to_z-of_z {w = w16} (sfits_of h)
 
--- a product below the product of two bounds
-pub mul_under : (a b c d : ℕ) → a ≤ c → b ≤ d → a * b ≤ c * d
-mul_under a b c d h g = mul-le-mul h g
+-- what each list needs, and what it has
+abbrev pub lengths_of : Given → ℕ → List (ℕ × ℕ)
+lengths_of g t =
+    (g.n, length g.counts) ∷ (g.n, length g.starts) ∷ (t, length g.origins) ∷ (t, length g.numbers) ∷ (t, length g.levels) ∷ (t * g.n, length g.stamps) ∷ []
 
--- a cell of the table of stamps, within n and beyond
-pub cell_in : (n : ℕ) (stamps : List ℕ) (j : ℕ) → j % 8 < n → at stamps (j / 8 * n + j % 8) ≡ given_cell n stamps j
-unfolding given_cell
-cell_in n stamps j h = rw (lt-ltb (j % 8) n h) refl
-
-pub cell_beyond : (n : ℕ) (stamps : List ℕ) (j : ℕ) → n ≤ j % 8 → 0 ≡ given_cell n stamps j
-unfolding given_cell
-cell_beyond n stamps j h = rw (le-ltb (j % 8) n h) refl
-
--- one list's length after the others
-module _ (k needs has : ℕ) where
-  pub length_short : has < needs → 1 ≡ length_fault k needs has
-  unfolding length_fault
-  length_short h = rw (lt-leb needs has h) refl
-
-  pub length_before : needs ≤ has → (k ≡ 0 → ⊥) → k ≡ length_fault k needs has
-  unfolding length_fault
-  length_before h z = rw (le-leb needs has h, ne_eqb k 0 z) refl
-
-  pub length_long : k ≡ 0 → needs < has → 3 ≡ length_fault k needs has
-  unfolding length_fault
-  length_long z h = rw (le-leb needs has (omega arith), eq-eqb k 0 z, lt-leb has needs h) refl
-
-  pub length_just : needs ≤ has → k ≡ 0 → has ≤ needs → 0 ≡ length_fault k needs has
-  unfolding length_fault
-  length_just h z l = rw (le-leb needs has h, eq-eqb k 0 z, le-leb has needs l) refl
-
--- 1 unless all are long enough, else 3 unless none is longer
-unfoldable by_length : Bool → Bool → ℕ
-by_length long short = cond long (cond short 0 3) 1
-
-lengths_none : 0 ≡ by_length true true
-unfolding by_length
-lengths_none = refl
-
-lengths_more : (a b : Bool) (k needs has : ℕ) → k ≡ by_length a b → length_fault k needs has ≡ by_length (a && leb needs has) (b && leb has needs)
-unfolding length_fault by_length
-lengths_more a b k needs has e = rw e (go a b (leb needs has) (leb has needs))
+below_not : (a b : ℕ) → ltb a b ≡ not (leb b a)
+below_not a b = go (dec_lt a b)
   where
-    go : (a b c d : Bool) → cond c (cond (eqb (by_length a b) 0) (cond d 0 3) (by_length a b)) 1 ≡ by_length (a && c) (b && d)
-    go false b true d = refl
-    go false b false d = refl
-    go true false true d = refl
-    go true false false d = refl
-    go true true c d = refl
+    go : Dec (a < b) → ltb a b ≡ not (leb b a)
+    go (yes l) = rw (lt-ltb a b l, lt-leb b a l) refl
+    go (no l) = let h : b ≤ a = omega arith in rw (le-ltb a b h, le-leb b a h) refl
 
--- one list after the other
-pub lengths_are : (n t c₁ c₂ c₃ c₄ c₅ c₆ k₁ k₂ k₃ k₄ k₅ k : ℕ) → k₁ ≡ length_fault 0 n c₁ → k₂ ≡ length_fault k₁ n c₂ → k₃ ≡ length_fault k₂ t c₃ → k₄ ≡ length_fault k₃ t c₄
-    → k₅ ≡ length_fault k₄ t c₅ → k ≡ length_fault k₅ (t * n) c₆ → k ≡ lengths_fault n t c₁ c₂ c₃ c₄ c₅ c₆
-unfolding by_length lengths_fault
-lengths_are n t c₁ c₂ c₃ c₄ c₅ c₆ k₁ k₂ k₃ k₄ k₅ k e₁ e₂ e₃ e₄ e₅ e₆ = go (go₅ (go₄ (go₃ (go₂ go₁))))
-  where
-    go₁ : k₁ ≡ by_length (leb n c₁) (leb c₁ n)
-    go₁ = e₁ ∙ lengths_more true true 0 n c₁ lengths_none
+none_of_six : (a b c d e f : Bool) → (not a || (not b || (not c || (not d || (not e || (not f || false)))))) ≡ not (a && b && c && d && e && f)
+none_of_six false b c d e f = refl
+none_of_six true false c d e f = refl
+none_of_six true true false d e f = refl
+none_of_six true true true false e f = refl
+none_of_six true true true true false f = refl
+none_of_six true true true true true false = refl
+none_of_six true true true true true true = refl
 
-    go₂ : k₁ ≡ by_length (leb n c₁) (leb c₁ n) → k₂ ≡ by_length (leb n c₁ && leb n c₂) (leb c₁ n && leb c₂ n)
-    go₂ h = e₂ ∙ lengths_more (leb n c₁) (leb c₁ n) k₁ n c₂ h
+pub some_short : (g : Given) (t : ℕ) → t ≡ first_given g g.n → list_any (λ l. ltb l.1 l.0) (lengths_of g t) ≡ not (long_enough g)
+unfolding long_enough
+some_short g t e =
+    rw (← e) (simp below_not (none_of_six (leb g.n (length g.counts)) (leb g.n (length g.starts)) (leb t (length g.origins)) (leb t (length g.numbers)) (leb t (length g.levels)) (leb (t * g.n) (length g.stamps))))
 
-    go₃ : k₂ ≡ by_length (leb n c₁ && leb n c₂) (leb c₁ n && leb c₂ n) → k₃ ≡ by_length (leb n c₁ && leb n c₂ && leb t c₃) (leb c₁ n && leb c₂ n && leb c₃ t)
-    go₃ h = e₃ ∙ lengths_more (leb n c₁ && leb n c₂) (leb c₁ n && leb c₂ n) k₂ t c₃ h
+pub some_longer : (g : Given) (t : ℕ) → t ≡ first_given g g.n → list_any (λ l. ltb l.0 l.1) (lengths_of g t) ≡ not (not_longer g)
+unfolding not_longer
+some_longer g t e =
+    rw (← e) (simp below_not (none_of_six (leb (length g.counts) g.n) (leb (length g.starts) g.n) (leb (length g.origins) t) (leb (length g.numbers) t) (leb (length g.levels) t) (leb (length g.stamps) (t * g.n))))
 
-    go₄ : k₃ ≡ by_length (leb n c₁ && leb n c₂ && leb t c₃) (leb c₁ n && leb c₂ n && leb c₃ t)
-        → k₄ ≡ by_length (leb n c₁ && leb n c₂ && leb t c₃ && leb t c₄) (leb c₁ n && leb c₂ n && leb c₃ t && leb c₄ t)
-    go₄ h = e₄ ∙ lengths_more (leb n c₁ && leb n c₂ && leb t c₃) (leb c₁ n && leb c₂ n && leb c₃ t) k₃ t c₄ h
+-- .. so the first test of the lengths that fails
+module _ (g : Given) (b : Bool) (short : b ≡ not (long_enough g)) where
+  not_not : (x y : Bool) → x ≡ not y → y ≡ not x
+  not_not x true e = rw e refl
+  not_not x false e = rw e refl
 
-    go₅ : k₄ ≡ by_length (leb n c₁ && leb n c₂ && leb t c₃ && leb t c₄) (leb c₁ n && leb c₂ n && leb c₃ t && leb c₄ t)
-        → k₅ ≡ by_length (leb n c₁ && leb n c₂ && leb t c₃ && leb t c₄ && leb t c₅) (leb c₁ n && leb c₂ n && leb c₃ t && leb c₄ t && leb c₅ t)
-    go₅ h = e₅ ∙ lengths_more (leb n c₁ && leb n c₂ && leb t c₃ && leb t c₄) (leb c₁ n && leb c₂ n && leb c₃ t && leb c₄ t) k₄ t c₅ h
+  pub lengths_short : b ≡ true → Err Reason.TooShort ≡ fault_of (lengths_tests g)
+  unfolding fault_of
+  lengths_short h = rw (not_not _ _ short, h) refl
 
-    go : k₅ ≡ by_length (leb n c₁ && leb n c₂ && leb t c₃ && leb t c₄ && leb t c₅) (leb c₁ n && leb c₂ n && leb c₃ t && leb c₄ t && leb c₅ t) → k ≡ lengths_fault n t c₁ c₂ c₃ c₄ c₅ c₆
-    go h = e₆ ∙ lengths_more (leb n c₁ && leb n c₂ && leb t c₃ && leb t c₄ && leb t c₅) (leb c₁ n && leb c₂ n && leb c₃ t && leb c₄ t && leb c₅ t) k₅ (t * n) c₆ h
+  module _ (fine : b ≡ false) (d : Bool) (longer : d ≡ not (not_longer g)) where
+    pub lengths_longer : d ≡ true → Err Reason.TooLong ≡ fault_of (lengths_tests g)
+    unfolding fault_of
+    lengths_longer h = rw (not_not _ _ short, fine, not_not _ _ longer, h) refl
 
--- the tests before the records, as the code makes them
-module _ (n : ℕ) (counts : List ℕ) (starts : List ℤ) (origins numbers levels stamps : ℕ) where
-  abbrev whole : ℕ
-  whole = whole_fault n counts starts origins numbers levels stamps
+    pub lengths_just : d ≡ false → Ok tt ≡ fault_of (lengths_tests g)
+    unfolding fault_of
+    lengths_just h = rw (not_not _ _ short, fine, not_not _ _ longer, h) refl
 
-  abbrev lengths : ℕ → ℕ
-  lengths t = lengths_fault n t (length counts) (length starts) origins numbers levels stamps
+-- a test of all items of a list
+and_assoc : (a b c : Bool) → (a && b && c) ≡ (a && (b && c))
+and_assoc true b c = refl
+and_assoc false b c = refl
 
-  pub whole_stations : (1 ≤ n → n ≤ 8 → ⊥) → 2 ≡ whole
-  unfolding whole_fault
-  whole_stations h = rw (refuted (leb 1 n && leb n 8) (λ t. let (a, b) = and_true (leb 1 n) (leb n 8) t in h (leb-true 1 n a) (leb-true n 8 b))) refl
+every_front : (n : ℕ) (f : ℕ → Bool) → every (suc n) f ≡ (f 0 && every n (λ p. f (suc p)))
+unfolding every
+every_front zero f = elim (f 0) as (λ b. b ≡ (b && true)) [ true ↦ refl | false ↦ refl ]
+every_front (suc n) f = rw (every_front n f) (and_assoc (f 0) (every n (λ p. f (suc p))) (f (suc n)))
 
-  module _ (low : 1 ≤ n) (high : n ≤ 8) (k t : ℕ) (t-is : t ≡ sum_to n (at counts)) (k-is : k ≡ lengths t) where
-    in_order : (leb 1 n && leb n 8) ≡ true
-    in_order = simp (le-leb 1 n low, le-leb n 8 high)
+all_every : {A : Type 0} (f : A → Bool) (s : List A) (d : A) → list_all f s ≡ every (length s) (λ p. f (get_or s p d))
+unfolding every
+all_every f [] d = refl
+all_every f (x ∷ xs) d = ap (λ (b : Bool). f x && b) (all_every f xs d) ∙ sym (every_front (length xs) (λ p. f (get_or (x ∷ xs) p d)))
 
-    k_all : lengths (sum_to n (at counts)) ≡ k
-    k_all = rw t-is at (sym k-is)
+pub all_levels : (s : List ℤ) → list_all (λ v. is_some (field_of v)) s ≡ every (length s) (λ p. is_level (get_or s p (pos 0)))
+all_levels s = all_every (λ v. is_some (field_of v)) s (pos 0) ∙ every_same (length s) _ _ (λ p h. level_some (get_or s p (pos 0)))
 
-    pub whole_lengths : (k ≡ 0 → ⊥) → k ≡ whole
-    unfolding whole_fault
-    whole_lengths h = rw (in_order, k_all, ne_eqb k 0 h) refl
+-- the level's test, by what was found before it
+pub level_passes : (f : Tested) (v : ℤ) → is_some (field_of v) ≡ true → level_fault f v ≡ f
+unfolding level_fault
+level_passes (Ok u) v h = rw (sym (level_some v) ∙ h) refl
+level_passes (Err k) v h = rw (sym (level_some v) ∙ h) refl
 
-    module _ (fine : k ≡ 0) (x : Bool) (x-is : x ≡ every n (λ p. is_level (get_or starts p (pos 0)))) where
-      pub whole_level : x ≡ false → 14 ≡ whole
-      unfolding whole_fault
-      whole_level h = rw (in_order, k_all, eq-eqb k 0 fine, ← x-is, h) refl
+pub level_found : (k : Reason) (v : ℤ) → before_level k ≡ true → level_fault (Err k) v ≡ Err k
+unfolding level_fault
+level_found k v h = rw (h, or_right (is_level v) true refl) refl
 
-      pub whole_none : x ≡ true → 0 ≡ whole
-      unfolding whole_fault
-      whole_none h = rw (in_order, k_all, eq-eqb k 0 fine, ← x-is, h) refl
+pub level_fails : (k : Reason) (v : ℤ) → is_some (field_of v) ≡ false → before_level k ≡ false → level_fault (Err k) v ≡ Err Reason.Level
+unfolding level_fault
+level_fails k v h g = rw (sym (level_some v) ∙ h, g) refl
+
+pub level_alone : (u : Unit {0}) (v : ℤ) → is_some (field_of v) ≡ false → level_fault (Ok u) v ≡ Err Reason.Level
+unfolding level_fault
+level_alone u v h = rw (sym (level_some v) ∙ h) refl
 
 -- where the level's test stands among the others
-pub level_after : (k bits : ℕ) → (k ≡ 5) ⊎ (k ≡ 6) → k ≡ level_fault k bits
-unfolding level_fault
-level_after k bits (inl e) = rw (eq-eqb k 5 e) refl
-level_after k bits (inr e) = rw (eq-eqb k 6 e, or_right (eqb k 5) true refl) refl
-
-pub level_passes : (k bits : ℕ) → bits < 4096 → k ≡ level_fault k bits
-unfolding level_fault
-level_passes k bits h = rw (lt-ltb bits 4096 h) (go (eqb k 5 || eqb k 6))
-  where
-    go : (b : Bool) → k ≡ cond b k k
-    go true = refl
-    go false = refl
-
-pub level_fails : (k bits : ℕ) → (k ≡ 5 → ⊥) → (k ≡ 6 → ⊥) → 4096 ≤ bits → 14 ≡ level_fault k bits
-unfolding level_fault
-level_fails k bits h g l = rw (ne_eqb k 5 h, ne_eqb k 6 g, le-ltb bits 4096 l) refl
-
--- one record's fault
-pub given_fault_lem : (n : ℕ) (m firsts rows origins numbers : List ℕ) (levels : List ℤ) (p r d o k f b x v : ℕ) → d ≡ r - at firsts p → o ≡ at origins r → k ≡ at numbers r
-    → b ≡ level_bits (get_or levels r (pos 0)) → f ≡ table_fault n m firsts rows o k p d → x ≡ level_fault f b → v ≡ code_of p d x
-    → (e : ℕ) → r ≡ at firsts p + e → v ≡ code_of p e (given_fault n m firsts rows origins numbers levels p e)
-unfolding given_fault
-given_fault_lem n m firsts rows origins numbers levels p r d o k f b x v e₁ e₂ e₃ e₄ e₅ e₆ e₇ e h =
-    let z : d ≡ e = omega arith in
-    rw (e₇, e₆, e₅, e₄, e₃, e₂, h, z) refl
-
--- a refusal as one number, and back
-module _ (p e k : ℕ) where
-  pub code_none : k ≡ 0 → 0 ≡ code_of p e k
-  unfolding code_of
-  code_none h = rw (eq-eqb k 0 h) refl
-
-  pub code_some : (k ≡ 0 → ⊥) → 8192 * (p + 1) + 16 * (e + 1) + k ≡ code_of p e k
-  unfolding code_of
-  code_some h = rw (ne_eqb k 0 h) refl
-
-  -- no number, no fault
-  pub code_fine : (v : ℕ) → v ≡ code_of p e k → v ≡ 0 → k ≡ 0
-  code_fine v h z = go (dec_le k 0)
-    where
-      go : Dec (k ≤ 0) → k ≡ 0
-      go (yes l) = omega arith
-      go (no l) = absurd (omega (arith, h, code_some (λ y. omega arith)))
-
-pub answer_0 : answer_of 0 ≡ Checked.Accepted
-unfolding answer_of
-answer_0 = refl
-
-pub answer_refused : (v : ℕ) → (v ≡ 0 → ⊥) → answer_of v ≡ Checked.Refused (refusal_of v)
-unfolding answer_of
-answer_refused v h = rw (ne_eqb v 0 h) refl
-
-pub answer_whole : (k : ℕ) → (k ≡ 0 → ⊥) → k < 16 → answer_of k ≡ refusal k 0 0
-unfolding refusal_of
-answer_whole k h l =
-    let a : k % 16 ≡ k = omega arith in
-    let b : k / 8192 % 256 ≡ 0 = omega arith in
-    let d : k / 16 % 512 ≡ 0 = omega arith in
-    answer_refused k h ∙ rw (a, b, d) refl
-
-pub answer_record : (p e k v : ℕ) → p < 8 → e < 511 → k < 16 → (k ≡ 0 → ⊥) → v ≡ code_of p e k → answer_of v ≡ refusal k (p + 1) (e + 1)
-unfolding refusal_of
-answer_record p e k v hp he hk h ev =
-    let z : v ≡ 8192 * (p + 1) + 16 * (e + 1) + k = ev ∙ sym (code_some p e k h) in
-    let a : v % 16 ≡ k = omega arith in
-    let o : v / 8192 ≡ p + 1 = omega arith in
-    let b : v / 8192 % 256 ≡ p + 1 = rw o (omega arith) in
-    let q : v / 16 ≡ 512 * (p + 1) + (e + 1) = omega arith in
-    let d : v / 16 % 512 ≡ e + 1 = rw q (omega arith) in
-    answer_refused v (λ y. omega arith) ∙ rw (a, b, d) refl
+pub level_between : (a b d : Bool) (v : ℤ)
+    → level_fault (fault_of (test Reason.Origin a ∷ test Reason.Number b ∷ test Reason.Stamp d ∷ [])) v
+    ≡ fault_of (test Reason.Origin a ∷ test Reason.Number b ∷ test Reason.Level (is_level v) ∷ test Reason.Stamp d ∷ [])
+unfolding fault_of level_fault before_level
+level_between false b d v = rw (or_right (is_level v) true refl) refl
+level_between true false d v = rw (or_right (is_level v) true refl) refl
+level_between true true false v = elim (is_level v) as (λ l. cond {A = Tested} (l || false) (Err Reason.Stamp) (Err Reason.Level) ≡ cond l (Err Reason.Stamp) (Err Reason.Level)) [ true ↦ refl | false ↦ refl ]
+level_between true true true v = refl

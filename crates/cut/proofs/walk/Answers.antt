@@ -1,55 +1,43 @@
-use mathlib.Core.Bool.{◌&&◌, ◌||◌}
-use native.Mathlib.Nat.{le_antisymm}
-use native.Mathlib.Omega.{arith}
-use lib.Dec.{leb, ltb}
+-- Where a test fails c breaks the law's words for a cut of the recording; the products and sums stay far below a usize.
+use Rattle.std.proofs.Common.{◌≡◌, inl, inr, arith}
 use Rattle.cut.proofs.ValueLaws.{eight_counts}
-use Rattle.cut.proofs.WalkLaws.{turned_none, term_small, product_small, kept_le, turn, walked}
+use Rattle.cut.proofs.WalkLaws.{turned_none, term_small, product_small, turn, not_cut, unfit, walked}
 use Rattle.cut.proofs.walk.Goals as goal
+use Rattle.cut.proofs.walk.Goals.{then-m-x-via-then-m-x, then-m-x-via-else-m-x+then-m-gt0, then-n-p, else-n-p}
 
-pub overflow_cast-n : goal.overflow_cast-n
-overflow_cast-n c = omega arith
+pub returns-then-n-lt1 : goal.returns-then-n-lt1
+returns-then-n-lt1 c = not_cut c.args.full c.args.c (λ d. let h = c.then-n-lt1.either in omega (arith, d.same_n, d.full.some_station, d.full.most_eight))
 
 pub loop-p-init : goal.loop-p-init
-loop-p-init c = turned_none _ _ _ _
+loop-p-init c = turned_none _ _ _
 
-pub count-m-requires : goal.count-m-requires
-count-m-requires c = omega arith
-
-pub count-x-requires : goal.count-x-requires
-count-x-requires c = omega arith
+pub returns-then-m-x : goal.returns-then-m-x
+returns-then-m-x c =
+    unfit c.args.full c.args.c c.loop-p.p (omega arith) λ f.
+    elim c.then-m-x.branch [
+      | then-m-x-via-then-m-x w ↦ omega arith
+      | then-m-x-via-else-m-x+then-m-gt0 w ↦ elim w.if-n-p.branch [ then-n-p v ↦ omega (arith, f.beyond) | else-n-p v ↦ omega (arith, f.beyond) ]
+    ]
 
 pub overflow_add-events : goal.overflow_add-events
 overflow_add-events c = omega arith
 
 pub overflow_mul-rank : goal.overflow_mul-rank
-overflow_mul-rank c = omega (arith, term_small c.loop-p.invariant c.count-x.result (omega arith))
+overflow_mul-rank c = omega (arith, term_small c.loop-p.invariant c.from-x.result (omega arith))
 
 pub overflow_add-rank : goal.overflow_add-rank
-overflow_add-rank c = omega (arith, term_small c.loop-p.invariant c.count-x.result (omega arith))
-
-pub overflow_add-m : goal.overflow_add-m
-overflow_add-m c = omega arith
+overflow_add-rank c = omega (arith, term_small c.loop-p.invariant c.from-x.result (omega arith))
 
 pub overflow_mul-size : goal.overflow_mul-size
-overflow_mul-size c = omega (arith, product_small c.loop-p.invariant c.count-m.result (omega arith))
-
-pub overflow_mul-size-in-loop-p : goal.overflow_mul-size-in-loop-p
-overflow_mul-size-in-loop-p c =
-    let p = c.loop-p.p in
-    let m = c.count-m.result in
-    let n = c.args.full.n in
-    omega (arith, kept_le c.held.result (leb c.count-x.result m && (ltb p n || ltb m 1)))
-
-pub overflow_add-p : goal.overflow_add-p
-overflow_add-p c = omega arith
-
-pub loop-p-smaller : goal.loop-p-smaller
-loop-p-smaller c = omega arith
+overflow_mul-size c = omega (arith, product_small c.loop-p.invariant c.from-m.result (omega arith))
 
 pub loop-p-preserved : goal.loop-p-preserved
 loop-p-preserved c =
-    turn c.loop-p.invariant _ _ _ c.count-m.ensures c.count-x.ensures c.held.ensures (omega arith)
+    rw c.min-size.ensures
+    (turn c.loop-p.invariant c.from-m.result c.from-x.result (c.from-m.ensures, omega arith) (c.from-x.ensures, omega arith)
+    (record { no_above = omega arith; beyond = λ k. elim c.if-m-gt0.either [ inl e ↦ omega arith | inr e ↦ omega arith ] }))
 
 pub returns : goal.returns
 returns c =
-    walked _ _ (eight_counts c.args.full _ c.well_formed.0) (rw (le_antisymm c.loop-p.invariant.place c.loop-p-test.false) at c.loop-p.invariant)
+    let e : c.loop-p.p ≡ 8 = omega arith in
+    walked c.args.full c.args.c (omega arith) (omega arith) c.if-c-full.false (eight_counts c.args.full _ c.well_formed.0) (rw e at c.loop-p.invariant)

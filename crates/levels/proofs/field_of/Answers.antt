@@ -1,17 +1,21 @@
--- The number raised by 32,768 is below 30,720, above 34,815, or between: below the levels, above them, or a level.
-use native.Mathlib.Omega.{arith}
-use mir.Facts.{to_z-of_z}
-use Rattle.levels.proofs.RaisedLaws.{field_below, field_above, field_within}
+-- The tests are those of the definition, and a level's remainder by 4,096 its 12 bits.
+use Rattle.std.proofs.Common.{sym, arith, rules}
+use Rattle.std.proofs.lemmas.Int.{ints}
+use Rattle.levels.specs.Level.{is_level}
+use Rattle.levels.proofs.LevelLaws.{field_computed, field_of-none}
 use Rattle.levels.proofs.field_of.Goals as goal
+use Rattle.levels.proofs.field_of.Goals.{then-v-lt-LOWEST-via-then-v-lt-LOWEST, then-v-lt-LOWEST-via-else-v-lt-LOWEST+then-v-gt-HIGHEST}
 
-pub returns-then-x-lt30720 : goal.returns-then-x-lt30720
-returns-then-x-lt30720 c =
-    field_below _ _ (rw (to_z-of_z c.ranges.v) at c.raised-x.ensures) (omega arith)
-
-pub returns-then-x-gt34815 : goal.returns-then-x-gt34815
-returns-then-x-gt34815 c =
-    field_above _ _ (rw (to_z-of_z c.ranges.v) at c.raised-x.ensures) (omega arith)
+pub returns-then-v-lt-LOWEST : goal.returns-then-v-lt-LOWEST
+unfolding is_level
+returns-then-v-lt-LOWEST c =
+    sym
+    (field_of-none c.args.v
+    (elim c.then-v-lt-LOWEST.branch [
+      | then-v-lt-LOWEST-via-then-v-lt-LOWEST w ↦ grind (arith, ints)
+      | then-v-lt-LOWEST-via-else-v-lt-LOWEST+then-v-gt-HIGHEST w ↦ grind (arith, ints)
+    ]))
 
 pub returns : goal.returns
-returns c =
-    field_within _ _ (rw (to_z-of_z c.ranges.v) at c.raised-x.ensures) (omega arith) (omega arith)
+unfolding is_level
+returns c = field_computed c.args.v c.rem_euclid.result c.ranges.v (search rules) c.rem_euclid.ensures.value (grind (arith, ints))

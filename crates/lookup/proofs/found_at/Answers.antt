@@ -1,55 +1,31 @@
 -- Event 0 has the start level and zeros; the record of any other event stands after those of the stations before and of the events before.
+use mathlib.Core.Path.{refl}
 use native.Mathlib.Omega.{arith}
-use Rattle.lookup.proofs.LookupLaws.{start_signed, found_of-start, record_place, found_of-event}
+use Rattle.recording.proofs.PlaceLaws.{peeked_read, first_at-le}
+use Rattle.lookup.proofs.LookupLaws.{start_signed, found_of-start, records_before, record_place, found_of-event}
 use Rattle.lookup.proofs.found_at.Goals as goal
 
-pub station_bit-requires : goal.station_bit-requires
-station_bit-requires c = omega arith
-
-pub overflow_add-station_bit : goal.overflow_add-station_bit
-overflow_add-station_bit c = omega arith
-
-pub returns-then-e-lt1 : goal.returns-then-e-lt1
-returns-then-e-lt1 c =
-    let (_, _, en, _, _, hp, _) = c.requires in
-    found_of-start _ _ _ _ _ en hp _ _ c.if-e-lt1.true (start_signed _ _ _ _ _ _ _ c.station_bit.ensures.0 c.peek.ensures c.signed.ensures)
+pub returns-then-e-eq0 : goal.returns-then-e-eq0
+returns-then-e-eq0 c =
+    let (ef, hn, hp, he) = c.requires in
+    found_of-start _ _ _ _ ef hn _ hp _ _ c.if-e-eq0.true (start_signed _ _ _ _ _ _ _ c.station_bit.ensures.0 c.peek.ensures c.signed.ensures)
 
 pub first-requires : goal.first-requires
-first-requires c = omega arith
+first-requires c =
+    let (ef, hn, hp, he) = c.requires in
+    let F = c.args.form in
+    omega (arith, records_before _ _ _ _ ef hn _ hp, first_at-le F.lead F.width c.args.s.now c.args.p (omega (arith, F.bounds)), F.bounds)
 
 pub overflow_add-first : goal.overflow_add-first
 overflow_add-first c =
-    let (h, g, en, hn, em, hp, he) = c.requires in
-    omega (arith, record_place _ _ _ _ _ en hp _ em hn _ c.first.ensures.0 g _ c.if-e-lt1.false he)
-
-pub record_bit-b-requires : goal.record_bit-b-requires
-record_bit-b-requires c =
-    let (h, g, en, hn, em, hp, he) = c.requires in
-    (h, g, hn, omega (arith, record_place _ _ _ _ _ en hp _ em hn _ c.first.ensures.0 g _ c.if-e-lt1.false he))
+    let (ef, hn, hp, he) = c.requires in
+    omega (arith, record_place _ _ _ _ ef hn _ hp (omega (arith, c.args.form.bounds)) _ c.if-e-eq0.false he)
 
 pub overflow_cast-result : goal.overflow_cast-result
-overflow_cast-result c = omega arith
-
-pub overflow_add-b : goal.overflow_add-b
-overflow_add-b c = omega arith
-
-pub overflow_add-b-2 : goal.overflow_add-b-2
-overflow_add-b-2 c = omega arith
-
-pub overflow_add-b-3 : goal.overflow_add-b-3
-overflow_add-b-3 c = omega arith
-
-pub overflow_add-b-4 : goal.overflow_add-b-4
-overflow_add-b-4 c = omega arith
-
-pub overflow_add-b-5 : goal.overflow_add-b-5
-overflow_add-b-5 c = omega arith
-
-pub stamp-requires : goal.stamp-requires
-stamp-requires c = omega arith
+overflow_cast-result c = omega (arith, peeked_read _ _ _ _ 4 _ c.peek-2.ensures refl (omega arith) (omega arith))
 
 pub returns : goal.returns
 returns c =
-    let (_, g, en, hn, em, hp, he) = c.requires in
-    found_of-event _ _ _ _ _ en hp _ em hn g _ c.first.ensures.0 _ c.if-e-lt1.false he _ c.record_bit-b.ensures.0 _ _ _ _ _
+    let (ef, hn, hp, he) = c.requires in
+    found_of-event _ _ _ _ ef hn _ hp (omega (arith, c.args.form.bounds)) _ c.if-e-eq0.false he _ _ c.first.ensures c.record_bit-b.ensures.0 _ _ _ _ _
     c.peek-2.ensures c.peek-3.ensures c.peek-4.ensures c.signed-2.ensures c.stamp.ensures

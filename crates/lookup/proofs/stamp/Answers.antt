@@ -1,30 +1,19 @@
-use mathlib.Core.Path.{refl, ◌∙◌}
+use mathlib.Core.Path.{refl, sym, ◌∙◌}
 use native.Mathlib.Omega.{arith}
-use Rattle.cuts.proofs.TabLaws.{tab_none, tab_more, tab_full}
+use Rattle.cuts.proofs.TabLaws.{tab_none, tab_more}
+use Rattle.recording.proofs.PlaceLaws.{peeked_read}
+use Rattle.lookup.proofs.LookupLaws.{counted_in, stamp_whole}
 use Rattle.lookup.proofs.stamp.Goals as goal
 
 pub loop-q-init : goal.loop-q-init
-loop-q-init c = (omega arith, tab_none _ _)
-
-pub count-requires : goal.count-requires
-count-requires c = omega arith
-
-pub offset_bounds-t-q : goal.offset_bounds-t-q
-offset_bounds-t-q c = omega arith
-
-pub bounds-t-q : goal.bounds-t-q
-bounds-t-q c = omega arith
-
-pub overflow_add-q : goal.overflow_add-q
-overflow_add-q c = omega arith
-
-pub loop-q-smaller : goal.loop-q-smaller
-loop-q-smaller c = omega arith
+loop-q-init c = tab_none _ _
 
 pub loop-q-preserved : goal.loop-q-preserved
 loop-q-preserved c =
+    let S = c.args in
     let L = c.loop-q in
-    (omega arith, rw (L.invariant.1, c.count.ensures) (tab_more L.q _ _ (omega arith)))
+    let f = (peeked_read _ _ _ _ 9 _ c.peek.ensures refl (omega arith) (omega arith)).0 ∙ sym (counted_in S.width S.s.now S.n S.b L.q (omega arith)) in
+    rw (L.invariant, f) (tab_more L.q _ _ (omega arith))
 
 pub returns : goal.returns
-returns c = c.loop-q.invariant.1 ∙ tab_full _ 8 _ _ c.loop-q.invariant.0 c.loop-q-test.false refl
+returns c = c.loop-q.invariant ∙ stamp_whole _ _ _ _ _ (omega arith) (omega arith)

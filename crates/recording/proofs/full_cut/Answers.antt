@@ -1,18 +1,8 @@
--- n is read and fits a byte, and the counts are those of its stations.
+-- n and the counts are those of its form.
 use mathlib.Core.Path.{refl}
-use native.Mathlib.Omega.{arith}
 use Rattle.recording.specs.Decode.{full_of}
 use Rattle.recording.proofs.full_cut.Goals as goal
 
-pub stations-n-requires : goal.stations-n-requires
-stations-n-requires c = omega arith
-
-pub counts-counts-requires : goal.counts-counts-requires
-counts-counts-requires c = omega arith
-
-pub overflow_cast-result : goal.overflow_cast-result
-overflow_cast-result c = omega arith
-
 pub returns : goal.returns
 unfolding full_of
-returns c = rw (c.counts-counts.ensures, c.stations-n.ensures.0) refl
+returns c = rw (c.counts.ensures, c.stations-n.ensures.0, c.of-packed.ensures.0, c.of-packed.ensures.1, c.of-packed.ensures.2) refl

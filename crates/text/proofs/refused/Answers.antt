@@ -1,21 +1,13 @@
--- The number, the station and the event stand behind the word; the line is offered to the whole room.
-use mathlib.Core.Path.{refl}
+-- The number, the station and the event stand behind the word.
 use native.Mathlib.Omega.{arith}
-use Rattle.text.specs.Written.{word_of}
-use Rattle.text.proofs.TextLaws.{printed_offered}
+use Rattle.text.proofs.TextLaws.{printed_whole, printed_none}
 use Rattle.text.proofs.LineLaws.{refused_line}
 use Rattle.text.proofs.refused.Goals as goal
 
-pub slice_bounds-put_line-end : goal.slice_bounds-put_line-end
-slice_bounds-put_line-end c = omega arith
-
-pub put_line-requires : goal.put_line-requires
-unfolding word_of
-put_line-requires c = (omega arith, record { bytes = refl; most = omega arith }, omega arith)
-
-pub shape_of-room : goal.shape_of-room
-shape_of-room c = omega arith
+pub returns-in_err-left_of : goal.returns-in_err-left_of
+returns-in_err-left_of c =
+    rw (c.from_residual.ensures, refused_line c.args.event c.from.ensures c.from-2.ensures (omega arith) (omega arith) (omega arith)) (printed_none _ _ c.in_err-left_of.ensures)
 
 pub returns : goal.returns
-unfolding word_of
-returns c = rw (refused_line _ _ _) (printed_offered c.put_line.ensures)
+returns c =
+    rw (refused_line c.args.event c.from.ensures c.from-2.ensures (omega arith) (omega arith) (omega arith)) (printed_whole (omega (arith, c.in_ok-left_of.ensures)) c.put.ensures)

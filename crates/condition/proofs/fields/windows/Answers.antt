@@ -1,35 +1,28 @@
-use Rattle.std.proofs.Common.{refl, arith}
-use Rattle.cuts.specs.Below.{tab}
-use Rattle.condition.proofs.FieldLaws.{filled_none, filled_more, filled_full}
-use Rattle.condition.proofs.WeighLaws.{byte_le}
+-- One window more that is in order; or one that is not, and so not all are.
+use Rattle.std.proofs.Common.{refl}
+use Rattle.std.proofs.lemmas.Result.{err_from_is_err_and}
+use Rattle.bits.specs.Bits.{peeked}
+use Rattle.condition.specs.Condition.{kind_at}
+use Rattle.cuts.specs.Below.{every, tab}
+use Rattle.cuts.proofs.BelowLaws.{every_more, every_false}
+use Rattle.condition.proofs.FieldLaws.{ok_by, err_by, err_if, filled_more}
 use Rattle.condition.proofs.fields.windows.Goals as goal
 
-pub overflow_mul-p : goal.overflow_mul-p
-overflow_mul-p c = omega (arith, byte_le c.args.refused)
-
 pub loop-p-init : goal.loop-p-init
-loop-p-init c = (refl, filled_none c.args.refused _ _)
+unfolding every tab
+loop-p-init c = (refl, refl)
 
 pub window-requires : goal.window-requires
-window-requires c = omega arith
+unfolding kind_at peeked
+window-requires c = (c.loop-p-test.true, rw c.peek-sum.ensures refl)
 
-pub offset_bounds-w-p : goal.offset_bounds-w-p
-offset_bounds-w-p c = omega arith
-
-pub bounds-w-p : goal.bounds-w-p
-bounds-w-p c = omega arith
-
-pub overflow_add-p : goal.overflow_add-p
-overflow_add-p c = omega arith
-
-pub loop-p-smaller : goal.loop-p-smaller
-loop-p-smaller c = omega arith
+pub returns-in_err-place : goal.returns-in_err-place
+returns-in_err-place c =
+    let (f, v) = err_by _ c.in_err-place.was c.window.ensures in
+    let r = err_from_is_err_and c.from_residual.result c.from_residual.ensures.1 in
+    rw (r.1, r.2, v) (err_if _ (every_false 8 _ c.loop-p.p c.loop-p-test.true f))
 
 pub loop-p-preserved : goal.loop-p-preserved
 loop-p-preserved c =
-    let l = c.loop-p in
-    (l.invariant.0, rw c.window.ensures (filled_more _ _ _ _ _ l.invariant.1 c.loop-p-test.true l.invariant.0))
-
-pub returns : goal.returns
-unfolding tab
-returns c = filled_full _ _ _ _ _ c.loop-p.invariant.1 c.loop-p-test.false c.loop-p.invariant.0
+    let (t, v) = ok_by _ c.in_ok-place.was c.window.ensures in
+    (filled_more _ _ _ c.loop-p.invariant.0 v c.loop-p-test.true, every_more _ _ c.loop-p.invariant.1 t)

@@ -1,7 +1,7 @@
 -- After p turns the first p places hold the rows before their stations', and the sum those before the next station's.
 use mathlib.Core.Path.{◌≡◌}
 use mathlib.Core.List.{◌++◌}
-use Prim.Native.Nat.{ℕ, ◌-◌, ◌≤◌}
+use Prim.Native.Nat.{ℕ, ◌≤◌}
 use lib.ListN.{drop}
 use Rattle.cuts.specs.Below.{tab}
 use Rattle.cuts.specs.Cut.{at}
@@ -9,7 +9,4 @@ use Rattle.engine.specs.Prepare.{rows_to}
 use Rattle.engine.proofs.needs.bases.Given as goal
 
 abbrev pub invariant-loop-p : goal.invariant-loop-p
-invariant-loop-p l = (l.p ≤ 8) × (l.rows ≡ rows_to l.counts l.p) × (l.b ≡ tab l.p (rows_to l.counts) ++ drop l.p l.initial.b) × ((q : ℕ) → at l.counts q ≤ 511)
-
-abbrev pub decreases-loop-p : goal.decreases-loop-p
-decreases-loop-p l = 8 - l.p
+invariant-loop-p l = (l.rows ≡ rows_to l.counts l.p) × (l.b ≡ tab l.p (rows_to l.counts) ++ drop l.p l.initial.b) × ((q : ℕ) → at l.counts q ≤ 511)

@@ -2,15 +2,12 @@
 -- as it was.
 use mathlib.Core.Path.{◌≡◌}
 use mathlib.Core.List.{◌++◌}
-use Prim.Native.Nat.{◌-◌, ◌*◌, ◌≤◌}
+use Prim.Native.Nat.{◌*◌}
 use lib.ListN.{length, drop}
 use Rattle.engine.specs.Prepare.{rows_to, needs_to, weights_to}
 use Rattle.engine.proofs.tables.lay.Given as goal
 
 abbrev pub invariant-loop-p : goal.invariant-loop-p
 invariant-loop-p l =
-    (l.p ≤ l.n) × (length l.needed ≡ 32768) × (length l.added ≡ 4096) × (l.needed ≡ needs_to l.counts l.stamps l.p ++ drop (8 * rows_to l.counts l.p) l.initial.needed)
+    (length l.needed ≡ 32768) × (length l.added ≡ 4096) × (l.needed ≡ needs_to l.counts l.stamps l.p ++ drop (8 * rows_to l.counts l.p) l.initial.needed)
     × (l.added ≡ weights_to l.counts l.c l.starts l.levels l.p ++ drop (1 * rows_to l.counts l.p) l.initial.added)
-
-abbrev pub decreases-loop-p : goal.decreases-loop-p
-decreases-loop-p l = l.n - l.p

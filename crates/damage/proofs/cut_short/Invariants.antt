@@ -1,9 +1,0 @@
--- k stays within the recording.
-use Rattle.std.proofs.Common.{◌-◌, ◌≤◌, length}
-use Rattle.damage.proofs.cut_short.Given as goal
-
-abbrev pub invariant-loop-k : goal.invariant-loop-k
-invariant-loop-k l = l.k ≤ length l.s
-
-abbrev pub decreases-loop-k : goal.decreases-loop-k
-decreases-loop-k l = length l.s - l.k

@@ -1,9 +1,0 @@
--- k stays within the sixteen numbers.
-use Rattle.std.proofs.Common.{◌-◌, ◌≤◌}
-use Rattle.damage.proofs.print_counts.Given as goal
-
-abbrev pub invariant-loop-k : goal.invariant-loop-k
-invariant-loop-k g l = l.k ≤ 16
-
-abbrev pub decreases-loop-k : goal.decreases-loop-k
-decreases-loop-k g l = 16 - l.k
