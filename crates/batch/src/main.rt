@@ -7,16 +7,15 @@ ghost use Rattle.std.specs.Io.KnownBytes.{Consumes, IsAtEnd};
 ghost use Rattle.text.specs.Text.{newline};
 ghost use Rattle.reply.specs.Answer.{text_of};
 
+use reading::ANNOUNCED;
 use std::io::{self, Read, Write};
 
-// The longest job that two bytes can announce.
-const ANNOUNCED: usize = 65535;
-
-// What `verdicts` looks at of a job: "at most 22,500 bytes of it (one more than the largest job has)".
+// What `verdicts` looks at of a job: "at most 22,500 bytes of it (one more than the largest job has)". The promise of `printed` has the number itself, so that
+// a program that looks at a byte less is refused here.
 const LOOKED_AT: usize = 22500;
 
 // No reply has a longer text (`text_fits`); and a newline.
-const LONGEST: usize = 4141;
+const LONGEST: usize = fits::LONGEST + 1;
 
 // A proved loop has to end, and nothing says that a stream does: the turns count up to a number that no stream uses up.
 fn main(rt: HostRuntime) -> io::Result<()> {
@@ -43,7 +42,7 @@ fn answer_next<R: Read, W: Write>(input: &mut R, output: &mut W) -> io::Result<b
 
 // The same of a job of at most that many bytes.
 fn answer_job<R: Read, W: Write>(most: usize, input: &mut R, output: &mut W) -> io::Result<()>
-    requires { most ≤ 65535 }
+    requires { most ≤ ANNOUNCED }
 {
     let mut job = [0u8; ANNOUNCED];
     let n = read_job(most, input, &mut job)?;
@@ -64,9 +63,9 @@ fn read_job<R: Read>(most: usize, input: &mut R, room: &mut [u8]) -> io::Result<
     reading::read_full(input, &mut room[..most])
 }
 
-// The text of the reply to what is looked at of a job and a newline, into the front of a room that always suffices; their length.
-fn printed(job: &[u8], room: &mut [u8]) -> usize
-    requires { 4141 ≡ length room.old }
+// The text of the reply to what is looked at of a job and a newline, into the front of a room that always suffices; their length. The newline stands in the
+// same room: one write a reply.
+fn printed(job: &[u8], room: &mut [u8; LONGEST]) -> usize
     ensures room_after { take result room.new ≡ text_of (take 22500 job.now) ++ newline }
     ensures prefix_len { (result ≤ length room.new) × (result ≡ length (take result room.new)) }
 {

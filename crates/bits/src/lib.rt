@@ -1,5 +1,6 @@
 // Fields of 1 to 16 bits in a slice of bytes, most significant bit first: a reader looks at them and takes them.
 // A place is a bit's number in the slice, from 0; a slice may have more bits than a usize can count.
+// `as` narrows only what is proved to fit; `try_from` would add an error that cannot occur.
 #![tactic(auto)]
 
 ghost use Rattle.std.specs.Prelude.{◌≡◌, ◌<◌, get_or};
@@ -20,7 +21,8 @@ impl<'a> BitReader<'a> {
         BitReader { bytes, taken }
     }
 
-    // The next k bits, which stay where they are: bits past the end are 0, and all is 0 where k is above 16. Three bytes hold them.
+    // The next k bits, which stay where they are: bits past the end are 0, and all is 0 where k is above 16: a number, not None, as `peeked` has it.
+    // Three bytes hold them.
     pub fn look(self, k: usize) -> u16
         ensures { result ≡ peeked self.entry.bytes.now self.entry.taken k }
     {

@@ -1,7 +1,7 @@
 -- Laws of the condition's fields. In order: a result by a test; pairs of ends; the kind; a window; what is refused with 8; a list that is filled; the value read. Assumes nothing.
 use Rattle.std.specs.Prelude.{if◌then◌else◌, Result, Ok, Err, is_ok, unwrap_or}
 use Rattle.std.specs.Result.{result_unwrap_or, result_err}
-use Rattle.std.proofs.Common.{◌≡◌, ℕ, zero, suc, ◌+◌, ◌-◌, ◌%◌, ◌<◌, ◌≤◌, Bool, true, false, cond, ◌&&◌, ◌||◌, eqb, ltb, leb, List, ◌++◌, length, drop, set, pos, sym, refl, ap, ◌∙◌, add-one, arith, le-ltb, lt-ltb, eq-eqb, ne_eqb, le-leb, leb-false, leb-true}
+use Rattle.std.proofs.Common.{◌≡◌, ℕ, zero, suc, ◌+◌, ◌-◌, ◌%◌, ◌<◌, ◌≤◌, Bool, true, false, cond, not, ◌&&◌, ◌||◌, eqb, ltb, leb, List, ◌++◌, length, drop, set, pos, sym, refl, ap, ◌∙◌, add-one, arith, le-ltb, lt-ltb, eq-eqb, ne_eqb, le-leb, leb-false, leb-true}
 use mathlib.Core.Bool as B
 use mathlib.Core.Bool.{false≢true}
 use native.Mathlib.Decide.{dec_lt}
@@ -13,7 +13,7 @@ use Rattle.levels.specs.Level.{twos}
 use Rattle.levels.proofs.LevelLaws.{sub_pos, sub_eq, sub_le}
 use Rattle.cuts.proofs.BelowLaws.{and_true, and_false, length_tab}
 use Rattle.cuts.proofs.TabLaws.{front_more}
-use Rattle.condition.specs.Condition.{bound_of, raised_of, upright, zeros, kind_at, k_at, low_at, high_at, kind_of, asked_at, window_low, window_high, window_ok, pair_ok, head_ok, condition_ok, condition_of, refused_of, read_of}
+use Rattle.condition.specs.Condition.{bound_of, raised_of, upright, zeros, uses_windows, kind_at, k_at, low_at, high_at, kind_of, asked_at, window_low, window_high, window_ok, pair_ok, head_ok, condition_ok, condition_of, refused_of, read_of}
 use Rattle.refusal.specs.declared.Reason.{Reason}
 use Rattle.condition.specs.declared.Kind.{Kind}
 
@@ -105,6 +105,17 @@ module _ (s : List ℕ) where
   kind_of-two h =
       let e : kind_at s ≡ suc (suc (kind_at s - 2)) = omega arith in
       rw e refl
+
+  -- a kind that keeps to its section uses windows unless it is the third
+  pub kind_uses : head_ok s ≡ true → uses_windows (kind_of s (kind_at s)) ≡ not (eqb (kind_at s) 2)
+  unfolding kind_of uses_windows
+  kind_uses h = go (kind_at s) (leb-true _ _ (and_true (leb (kind_at s) 2) (leb (k_at s) 8) (and_true _ _ (and_true _ _ h).0).0).0)
+    where
+      go : (k : ℕ) → k ≤ 2 → uses_windows (kind_of s k) ≡ not (eqb k 2)
+      go zero l = refl
+      go (suc zero) l = refl
+      go (suc (suc zero)) l = refl
+      go (suc (suc (suc k))) l = absurd (omega arith)
 
 module _ (s : List ℕ) (p : ℕ) where
   -- Sum has no use for a window

@@ -30,6 +30,12 @@ paper_of Kind.Together = record { number = 0; k = 0; low = pos 0; high = pos 0 }
 paper_of (Kind.AtLeast k) = record { number = 1; k = k; low = pos 0; high = pos 0 }
 paper_of (Kind.Sum low high) = record { number = 2; k = 0; low = bound_of low; high = bound_of high }
 
+-- whether a kind uses the windows of the asked stations: Sum uses none
+unfoldable pub uses_windows : Kind → Bool
+uses_windows Kind.Together = true
+uses_windows (Kind.AtLeast k) = true
+uses_windows (Kind.Sum low high) = false
+
 -- v lies from low to high
 unfoldable pub between : ℤ → ℤ → ℤ → Bool
 between low high v = int_le low v && int_le v high

@@ -1,9 +1,10 @@
-// The fields of the 38 bytes, and what is refused with 8.
-ghost use Rattle.std.specs.Prelude.{◌≡◌, ◌+◌, ◌<◌, if◌then◌else◌, ◌==◌, Ok, Err};
+// The fields of the 38 bytes, and what is refused of them: a condition that breaks its rules.
+// `as` narrows only what is proved to fit; `try_from` would add an error that cannot occur.
+ghost use Rattle.std.specs.Prelude.{◌≡◌, ◌+◌, ◌<◌, not, if◌then◌else◌, ◌==◌, Ok, Err};
 ghost use Rattle.bits.specs.Bits.{field};
 ghost use Rattle.cuts.specs.Below.{every, tab};
 ghost use Rattle.refusal.specs.declared.Reason.{Reason};
-ghost use Rattle.condition.specs.Condition.{kind_at, head_ok, window_ok, pair_ok, raised_of, kind_of, window_of};
+ghost use Rattle.condition.specs.Condition.{kind_at, uses_windows, head_ok, window_ok, pair_ok, raised_of, kind_of, window_of};
 
 use crate::{Kind, Window};
 use refusal::Reason;
@@ -24,25 +25,25 @@ pub fn kind(s: &[u8]) -> Result<Kind, Reason>
     }
 }
 
-// The eight windows, or Condition, where one is not in order.
-pub fn windows(s: &[u8]) -> Result<[Window; 8], Reason>
+// The eight windows of a condition of that kind, or Condition, where one is not in order.
+pub fn windows(s: &[u8], kind: Kind) -> Result<[Window; 8], Reason>
+    requires { uses_windows kind ≡ not (kind_at s.now == 2) }
     ensures { result ≡ (if every 8 (window_ok s.now) then Ok (tab 8 (window_of s.now)) else Err Reason.Condition) }
 {
-    let sum = bits::peek(s, 0, 2) == 2;
     let mut windows = [Window::default(); 8];
     for (p, place) in windows.iter_mut().enumerate() {
-        *place = window(s, p, sum)?;
+        *place = window(s, p, kind)?;
     }
     Ok(windows)
 }
 
-// The window of the station at place p, or Condition: Sum uses none, the other kinds that of an asked station.
-fn window(s: &[u8], p: usize, sum: bool) -> Result<Window, Reason>
-    requires { (p < 8) × (sum ≡ (kind_at s.now == 2)) }
+// The window of the station at place p, or Condition: used where the station is asked, if the kind uses windows.
+fn window(s: &[u8], p: usize, kind: Kind) -> Result<Window, Reason>
+    requires { (p < 8) × (uses_windows kind ≡ not (kind_at s.now == 2)) }
     ensures { result ≡ (if window_ok s.now p then Ok (window_of s.now p) else Err Reason.Condition) }
 {
     let asked = bits::peek(s, 40 + p, 1) == 1;
-    let (low, high) = ends(s, 48 + 32 * p, asked & !sum)?;
+    let (low, high) = ends(s, 48 + 32 * p, asked && kind.uses_windows())?;
     Ok(Window { asked, low, high })
 }
 

@@ -4,7 +4,7 @@
 ghost use Rattle.std.specs.Prelude.{◌≡◌, ◌+◌, ◌≤◌, ◌&&◌, nat_le};
 ghost use Rattle.cuts.specs.Cut.{at};
 ghost use Rattle.levels.specs.Level.{level_of};
-ghost use Rattle.condition.specs.Condition.{read_of, holds_of};
+ghost use Rattle.condition.specs.Condition.{uses_windows, read_of, holds_of};
 ghost use Rattle.condition.specs.Weigh.{weigh_of, asked_of, limits_of};
 
 use refusal::Reason;
@@ -19,7 +19,7 @@ pub enum Kind {
     Sum(u16, u16),
 }
 
-// A station's window, whether the station is asked. The ends are excess numbers too.
+// A station's window, whether the station is asked. The ends are excess numbers too. No Option of the ends: Sum asks stations without a window.
 #[derive(Clone, Copy, Debug, Default, PartialEq, Eq)]
 pub struct Window {
     pub asked: bool,
@@ -49,11 +49,11 @@ pub fn read(s: &[u8]) -> Result<Condition, Reason>
         return Err(Reason::TooShort);
     }
     let kind = fields::kind(s)?;
-    let windows = fields::windows(s)?;
+    let windows = fields::windows(s, kind)?;
     Ok(Condition { kind, windows })
 }
 
-// What the station at place p adds to the sum that decides, at this excess level; 0 beyond the eighth.
+// What the station at place p adds to the sum that decides, at this excess level. 0 beyond the eighth, not None: `weigh_of` promises it.
 pub fn weigh(c: Condition, p: usize, level: u16) -> u16
     ensures { result ≡ weigh_of c p level }
 {
@@ -100,6 +100,16 @@ pub fn holds(c: Condition, levels: [u16; 8]) -> bool
     }
     let limits = limits_of(c);
     (limits.least..=limits.most).contains(&sum)
+}
+
+impl Kind {
+    // Whether asked stations have windows: Sum uses none.
+    #[tactic(auto, unfolding(crate::specs::Condition::uses_windows))]
+    fn uses_windows(self) -> bool
+        ensures { result ≡ uses_windows self }
+    {
+        !matches!(self, Kind::Sum(..))
+    }
 }
 
 impl Window {

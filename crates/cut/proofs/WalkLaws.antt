@@ -23,7 +23,7 @@ use Rattle.cut.specs.declared.Cut.{Cut}
 use Rattle.cut.specs.declared.Walked.{Walked}
 use Rattle.cuts.proofs.BelowLaws.{last_or_below, sum_to-more}
 use Rattle.cuts.proofs.ReplyLaws.{refuted}
-use Rattle.cut.proofs.ValueLaws.{held_more, mul_under, weight_le, weight_more, rank_to, rank_to-more}
+use Rattle.cut.proofs.ValueLaws.{held_more, mul_under, weight_more, rank_to, rank_to-more}
 use Rattle.cut.proofs.ValueRight.{is_full-is, is_cut-is, station_is, box_loop, box_of-loop, rank_of-loop, rank_of-none, events_of-loop}
 
 -- terms from n on that are 0 add nothing
@@ -44,10 +44,6 @@ weight_beyond l n (suc k) h z =
     (λ e. rw e refl)
     (λ b. rw (← add-one k, weight_more, z k (omega arith) (omega arith)) (omega (arith, weight_beyond l n k (le_of_suc-le-suc b) (λ q i. z q (omega arith)))))
     (eq-or-lt_of_le h)
-
-weight_pos : (l : List ℕ) (p : ℕ) → 0 < weight l p
-unfolding weight product_to
-weight_pos l p = weight_le l 0 p (omega arith)
 
 -- the counts at place q will do: none above its station's events, none beyond n other than 0
 pub record Fitting (n : ℕ) (m c : List ℕ) (q : ℕ) : Type 0 where

@@ -6,7 +6,7 @@ ghost use Rattle.std.specs.Prelude.{◌≡◌, ◌&&◌, ◌-◌, ◌<◌, Match
 ghost use Rattle.cut.specs.Value.{is_cut, is_station, forward_of, back_of, box_of, rank_of, events_of};
 ghost use Rattle.cut.specs.Walk.{Walks};
 
-// One event number for each station; counts beyond n are 0.
+// One event number for each station; counts beyond n are 0. An array of eight, of which n are used, stays: the law's own form, fixed memory, no heap.
 #[derive(Clone, Copy, Debug, PartialEq, Eq)]
 pub struct Cut {
     pub counts: [u16; 8],
@@ -14,7 +14,7 @@ pub struct Cut {
 }
 
 // What one walk over the places of a recording and a cut of it comes to: the box under its ceiling, the rank, T.
-#[derive(Clone, Copy)]
+#[derive(Clone, Copy, Debug, PartialEq, Eq)]
 struct Walked {
     size: usize,
     rank: usize,
@@ -60,7 +60,8 @@ impl Cut {
     }
 }
 
-// The box of the recording, 65,537 once it is above 65,536; 0, the number of its cuts, where there is no such recording: a number, no flag.
+// The box of the recording, 65,537 once it is above 65,536; 0, the number of its cuts, where there is no such recording. Both are numbers, no flags, as
+// `box_of` has them: the law's test for BoxSize compares the box with 65,536.
 pub fn box_of(full: Cut) -> usize
     ensures { result ≡ box_of full }
 {

@@ -17,7 +17,7 @@ fn main(rt: HostRuntime) -> io::Result<()> {
 }
 
 // How often each number was replied.
-#[derive(Clone, Copy, Debug, Default)]
+#[derive(Clone, Copy, Debug, Default, PartialEq, Eq)]
 struct Counts {
     by_number: [u32; 16],
 }

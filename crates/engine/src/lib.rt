@@ -17,16 +17,31 @@ mod tables;
 mod verdict;
 mod weights;
 
+// An accepted recording: its bytes, with the tables of its stamps and levels.
+#[derive(Clone, Copy, Debug, PartialEq, Eq)]
+struct Accepted<'a> {
+    bytes: &'a [u8],
+    stamps: &'a [u16],
+    levels: &'a [u16],
+    ghost laid: { Laid bytes.now stamps.now levels.now },
+}
+
 // Both verdicts of a job, its marks and, where Def is no, its path; or the refusal, and nothing changed.
 pub fn judge(job: &[u8], marks: &mut [u8], path: &mut [u8]) -> Result<Verdicts, Refusal>
     ensures { Judged job.now marks.old path.old result marks.new path.new }
 {
     let condition = condition::read(job)?;
     let s = &job[38..];
-    let mut stamps = [0u16; 32704];
-    let mut levels = [0u16; 4088];
+    // Rooms of fixed length, here and in `verdict`, of which the front is used: fixed memory, no heap.
+    let mut stamps = [0u16; recording::CELLS];
+    let mut levels = [0u16; recording::RECORDS];
     decode(s, &mut stamps, &mut levels)?;
-    verdict::verdicts(condition, s, &stamps, &levels, marks, path)
+    let accepted = Accepted {
+        bytes: s,
+        stamps: &stamps,
+        levels: &levels,
+    };
+    verdict::verdicts(condition, accepted, marks, path)
 }
 
 // The tables of a recording, in rooms that suffice for any.

@@ -1,4 +1,4 @@
-// What a job's recording and condition ask of each other and of the rooms: 9, 10, 11, 12.
+// What a job's recording and condition ask of each other and of the rooms.
 ghost use Rattle.std.specs.Prelude.{◌≡◌};
 ghost use Rattle.cut.specs.Value.{box_of, events_of};
 ghost use Rattle.recording.specs.Check.{fault_of};
@@ -32,7 +32,8 @@ pub fn check(c: Condition, full: Cut, marks: usize, path: usize) -> Result<(), R
 fn none_above(c: Condition, n: u8) -> bool
     ensures { result ≡ none_above c n }
 {
-    for p in n as usize..8 {
+    // A chain of `skip` and `all` says the same: tried, and its proof did not close.
+    for p in usize::from(n)..8 {
         if c.windows[p].asked {
             return false;
         }

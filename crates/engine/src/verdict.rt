@@ -1,48 +1,41 @@
 // The reply to an accepted recording and a condition: the refusals from the condition's on, or the verdicts.
 ghost use Rattle.condition.specs.Weigh.{limits_of};
 ghost use Rattle.engine.specs.Prepare.{Shifts};
-ghost use Rattle.engine.specs.Computed.{Laid, Answered};
+ghost use Rattle.engine.specs.Computed.{Answered};
 
-use crate::{needs, rooms, tables};
+use crate::{Accepted, rooms, tables};
 use condition::{Condition, Limits};
 use marks::{Task, Verdicts};
 use refusal::Refusal;
 
-// The reply to a condition and an accepted recording, whose tables are handed in, marks and path filled; or the refusal, and nothing changed.
+// The verdicts on a condition and an accepted recording, marks and path filled; or the refusal, and nothing changed.
 pub fn verdicts(
     c: Condition,
-    s: &[u8],
-    stamps: &[u16],
-    levels: &[u16],
+    accepted: Accepted,
     marks: &mut [u8],
     path: &mut [u8],
 ) -> Result<Verdicts, Refusal>
-    requires { Laid s.now stamps.now levels.now }
-    ensures { Answered c s.now marks.old path.old result marks.new path.new }
+    ensures { Answered c accepted.entry.bytes.now marks.old path.old result marks.new path.new }
 {
-    let full = recording::full_cut(s);
+    let full = recording::full_cut(accepted.bytes);
     rooms::check(c, full, marks.len(), path.len())?;
-    let bases = needs::bases(full);
-    let starts = recording::starts(s);
-    let mut table = [0u16; 32768];
+    let mut needed = [0u16; 32768];
     let mut added = [0u16; 4096];
-    tables::lay(
-        c, full, bases, starts, stamps, levels, &mut table, &mut added,
-    );
+    let bases = tables::lay(c, accepted, full, &mut needed, &mut added);
     let limits = sum_limits(c);
     let task = Task {
         full,
         bases,
         least: limits.least,
         most: limits.most,
-        needs: &table,
+        needs: &needed,
         weights: &added,
     };
     Ok(task.settle(marks, path).unwrap())
 }
 
-// The limits of the sum itself: those of a condition are 32,768 above.
-pub fn sum_limits(c: Condition) -> Limits
+// The limits of the sum itself: those of a condition are 32,768 above. No sum lies from 1 to 0.
+fn sum_limits(c: Condition) -> Limits
     ensures { Shifts (limits_of c) result }
 {
     let l = condition::limits_of(c);

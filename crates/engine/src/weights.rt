@@ -3,8 +3,7 @@ ghost use Rattle.std.specs.Prelude.{◌≡◌, ◌++◌, ◌+◌, ◌≤◌, ◌
 ghost use Rattle.cuts.specs.Below.{tab};
 ghost use Rattle.engine.specs.Prepare.{station_weight};
 
-use crate::needs;
-use crate::tables::Station;
+use crate::tables::{Station, lay_each};
 use condition::Condition;
 
 // What a station, with its start level, adds after each of its events, in its rows.
@@ -18,9 +17,9 @@ pub fn lay_station_weights(
     requires { length weights.old ≡ 4096 }
     ensures { weights.new ≡ take station.row weights.old ++ tab (station.events + 1) (station_weight c start levels.now station.place station.first) ++ drop (station.row + (station.events + 1)) weights.old }
 {
-    for e in 0..station.events + 1 {
-        weights[station.row + e] = station_weight(c, start, levels, station, e);
-    }
+    lay_each(weights, station.row, station.events + 1, |e| {
+        station_weight(c, start, levels, station, e)
+    });
 }
 
 // What it adds after its event e.
@@ -30,7 +29,7 @@ fn station_weight(c: Condition, start: u16, levels: &[u16], station: Station, e:
 {
     let level = match e {
         0 => start,
-        _ => needs::number(levels, station.first + (e - 1)),
+        _ => levels.get(station.first + (e - 1)).copied().unwrap_or(0),
     };
     condition::weigh(c, station.place, level)
 }

@@ -4,10 +4,8 @@
 
 ghost use Rattle.std.specs.Prelude.{◌≤◌, IfOk};
 
+use reading::ANNOUNCED;
 use std::io::{self, Read, Write};
-
-// The longest part that two bytes can announce.
-const PART: usize = 65535;
 
 // More than there are examples: a proved loop has to end.
 const MOST: u8 = 100;
@@ -25,7 +23,7 @@ fn main(rt: HostRuntime) -> io::Result<()> {
 
 // Reads an example, prints its line and the reply to its job; whether there was one.
 fn run_next<R: Read, W: Write>(input: &mut R, output: &mut W) -> io::Result<bool> {
-    let mut part = [0u8; PART];
+    let mut part = [0u8; ANNOUNCED];
     let n = read_part(input, &mut part)?;
     if n == 0 {
         return Ok(false);
@@ -37,8 +35,8 @@ fn run_next<R: Read, W: Write>(input: &mut R, output: &mut W) -> io::Result<bool
 }
 
 // Reads a part into the front of the room; how many bytes there were.
-fn read_part<R: Read>(input: &mut R, room: &mut [u8; PART]) -> io::Result<usize>
-    ensures { IfOk result (λ n. n ≤ 65535) }
+fn read_part<R: Read>(input: &mut R, room: &mut [u8; ANNOUNCED]) -> io::Result<usize>
+    ensures { IfOk result (λ n. n ≤ ANNOUNCED) }
 {
     let mut head = [0u8; 2];
     reading::read_full(input, &mut head)?;

@@ -1,19 +1,20 @@
--- Laws of a record's fault as the code works it out of flat tables. In order: tests; the origin's kinds; one stamp; what origin and number break; any record.
+-- Laws of a record's fault as the code works it out of flat tables. In order: tests; the origin's kinds; one stamp; what origin and number break; any record; sums in
+-- front of a list.
 -- Assumes nothing.
 use mathlib.Core.Path.{◌≡◌, refl, sym, ap, ◌∙◌}
 use mathlib.Core.Bool.{Bool, true, false, ◌&&◌, ◌||◌, not, cond}
-use mathlib.Core.List.{List}
+use mathlib.Core.List.{List, ◌++◌}
 use Prim.Native.Nat.{ℕ, suc, ◌+◌, ◌-◌, ◌/◌, ◌≤◌, ◌<◌, max}
 use native.Mathlib.Numerals.{add-one}
 use native.Mathlib.Omega.{arith}
-use lib.ListN.{length}
+use lib.ListN.{length, get_or-append}
 use lib.Dec.{leb, ltb, eqb}
 use mir.Val.{bool_byte}
 use borrow.Author.Tests.{ltb-true, ltb-false, leb-true, leb-false, eqb-true, eqb-false, lt-ltb, le-leb, lt-leb}
 use Rattle.std.specs.Prelude.{Result, Ok, Err}
-use Rattle.cuts.specs.Below.{every, own}
+use Rattle.cuts.specs.Below.{every, own, sum_to, tab}
 use Rattle.cuts.specs.Cut.{at}
-use Rattle.cuts.proofs.BelowLaws.{and_false, every_false, own_self, own_other}
+use Rattle.cuts.proofs.BelowLaws.{and_false, every_false, own_self, own_other, length_tab, get_d-tab, sum_to-same, tab_same}
 use Rattle.refusal.specs.Refusal.{Tested}
 use Rattle.refusal.specs.declared.Reason.{Reason}
 use Rattle.faults.specs.Fault.{source_of, has, place_at, place_right, stamp_fault, receipt_fault, source_fault, table_fault}
@@ -89,3 +90,12 @@ module _ (n : ℕ) (m firsts rows : List ℕ) (o k p e : ℕ) where
   -- two permitted replies are equal
   pub message_fault_unique : (r r' : Tested) → r ≡ table_fault n m firsts rows o k p e → r' ≡ table_fault n m firsts rows o k p e → r ≡ r'
   message_fault_unique r r' a b = a ∙ sym b
+
+-- number p of a list that begins with f's values
+pub front_at : (f : ℕ → ℕ) (k p : ℕ) (d l : List ℕ) → l ≡ tab k f ++ d → p < k → at l p ≡ f p
+front_at f k p d l e h = rw e (get_or-append (tab k f) d 0 p (omega (arith, length_tab k f)) ∙ get_d-tab k f 0 p h)
+
+-- the sums of eight counts, by what they were made of
+pub sums_made : (f : ℕ → ℕ) (m : List ℕ) (r : List ℕ) → m ≡ tab 8 f → r ≡ tab 9 (λ p. sum_to p (at m)) → r ≡ tab 9 (λ p. sum_to p f)
+sums_made f m r em er =
+    er ∙ tab_same 9 _ _ (λ p h. sum_to-same p _ _ (λ q k. rw em (get_d-tab 8 f 0 q (omega arith))))

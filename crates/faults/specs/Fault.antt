@@ -1,6 +1,6 @@
 -- The fault of one record, worked out of flat tables. Nothing here has to be believed: `TablesRight` of `recording` proves that it is the first of the
 -- record's tests that fails. In order: the origin's kinds, and what they break; stamps in the table; a local step; a receipt; any record.
-use Rattle.std.specs.Prelude.{Bool, ◌&&◌, ◌||◌, cond, List, ℕ, zero, suc, ◌+◌, ◌-◌, ◌*◌, ◌/◌, max, leb, ltb, eqb, length, Result, Ok, Err}
+use Rattle.std.specs.Prelude.{Bool, ◌&&◌, ◌||◌, cond, List, ℕ, zero, suc, ◌+◌, ◌-◌, ◌*◌, ◌/◌, ◌≤◌, max, leb, ltb, eqb, length, Result, Ok, Err}
 use Rattle.cuts.specs.Below.{every, own}
 use Rattle.cuts.specs.Cut.{at}
 use Rattle.refusal.specs.Refusal.{Tested}
@@ -11,15 +11,21 @@ use Rattle.faults.specs.declared.Source.{Source}
 unfoldable pub source_of : ℕ → Result Source Reason
 source_of o = cond (eqb o 0) (Ok Source.Local) (cond (leb o 8) (Ok (Source.From o)) (Err Reason.Origin))
 
+-- a kind that an origin can have: its station is 1 to 8
+abbrev pub Named : Source → Type 0
+Named Source.Local = Unit
+Named (Source.From station) = (1 ≤ station) × (station ≤ 8)
+
 -- what the kind of the origin or the sender's number k breaks, in a record of the station at place p, if either breaks anything
 unfoldable pub sender_fault : ℕ → List ℕ → ℕ → Result Source Reason → ℕ → Tested
 sender_fault n m p (Ok Source.Local) k = cond (eqb k 0) (Ok tt) (Err Reason.Number)
 sender_fault n m p (Ok (Source.From o)) k = cond (ltb n o || eqb o (p + 1)) (Err Reason.Origin) (cond (leb 1 k && leb k (at m (o - 1))) (Ok tt) (Err Reason.Number))
 sender_fault n m p (Err r) k = Err r
 
--- the place of the station that the origin o names, the record's own place p for a local step
-unfoldable pub sender_at : ℕ → ℕ → ℕ
-sender_at o p = cond (eqb o 0) p (o - 1)
+-- the place of the station that the kind of the origin names, the record's own place p for a local step
+unfoldable pub sender_at : Source → ℕ → ℕ
+sender_at Source.Local p = p
+sender_at (Source.From station) p = station - 1
 
 -- place q of the stamp of event e of the station whose records begin at `first`; event 0 has zeros
 unfoldable pub place_at : List ℕ → ℕ → ℕ → ℕ → ℕ

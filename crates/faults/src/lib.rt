@@ -2,7 +2,9 @@
 #![tactic(auto)]
 
 ghost use Rattle.std.specs.Prelude.{◌≡◌, ◌-◌, ◌/◌, ◌≤◌, ◌<◌, length, Ok};
-ghost use Rattle.faults.specs.Fault.{source_of, sender_at, sender_fault, place_at, stamp_fault, table_fault};
+ghost use Rattle.cuts.specs.Below.{sum_to, tab};
+ghost use Rattle.cuts.specs.Cut.{at};
+ghost use Rattle.faults.specs.Fault.{source_of, Named, sender_at, sender_fault, place_at, stamp_fault, table_fault};
 ghost use Rattle.faults.specs.declared.Source.{Source};
 
 use refusal::Reason;
@@ -31,14 +33,40 @@ impl TryFrom<u8> for Source {
     }
 }
 
+impl Source {
+    // The place of the station that the message came from; for a local step the record's own.
+    #[tactic(auto, unfolding(crate::specs::Fault::sender_at))]
+    fn sender(self, own: usize) -> usize
+        requires { Named self }
+        ensures { result ≡ sender_at self own }
+    {
+        match self {
+            Source::Local => own,
+            Source::From(station) => usize::from(station) - 1,
+        }
+    }
+}
+
 // What the records of a recording are checked against: n stations with so many events each, the number of records before those of each station, and the
-// stamps in rows of eight places. Arrays of eight and nine with n beside them stay: fixed memory, no heap.
-#[derive(Clone, Copy)]
+// stamps in rows of eight places. Arrays of eight and nine with n beside them stay: fixed memory, no heap. `firsts` follows from `counts` (`firsts_of`), but it is
+// handed in, added up once for all records: both callers find the places of their own records in it too.
+#[derive(Clone, Copy, Debug, PartialEq, Eq)]
 pub struct Tables<'a> {
     pub n: usize,
     pub counts: [u16; 8],
     pub firsts: [usize; 9],
     pub rows: &'a [u16],
+}
+
+// The records before those of each station, which have so many events; the last is T.
+pub fn firsts_of(counts: &[u16; 8]) -> [usize; 9]
+    ensures { result ≡ tab 9 (λ p. sum_to p (at counts.now)) }
+{
+    let mut firsts = [0; 9];
+    for p in 0..8 {
+        firsts[p + 1] = firsts[p] + usize::from(counts[p]);
+    }
+    firsts
 }
 
 impl<'a> Tables<'a> {
@@ -51,17 +79,18 @@ impl<'a> Tables<'a> {
         if 8 < self.n || self.n <= p {
             return Err(Reason::Stamp);
         }
-        self.sender_fault(o, k, p)?;
-        self.stamp_fault(p, self.firsts[p], e, self.firsts[sender_of(o, p)], k)
+        let source = Source::try_from(o)?;
+        self.sender_fault(source, k, p)?;
+        self.stamp_fault(p, self.firsts[p], e, self.firsts[source.sender(p)], k)
     }
 
-    // What the origin o or the sender's number k breaks.
-    #[tactic(auto, unfolding(crate::specs::Fault::sender_fault, crate::specs::Fault::source_of))]
-    fn sender_fault(&self, o: u8, k: usize, p: usize) -> Result<(), Reason>
-        requires { p < 8 }
-        ensures { result ≡ sender_fault self.now.n self.now.counts p (source_of o) k }
+    // What the origin or the sender's number k breaks.
+    #[tactic(auto, unfolding(crate::specs::Fault::sender_fault))]
+    fn sender_fault(&self, source: Source, k: usize, p: usize) -> Result<(), Reason>
+        requires { (p < 8) × Named source }
+        ensures { result ≡ sender_fault self.now.n self.now.counts p (Ok source) k }
     {
-        match Source::try_from(o)? {
+        match source {
             Source::Local if k == 0 => Ok(()),
             Source::Local => Err(Reason::Number),
             Source::From(station) => self.receipt_fault(usize::from(station), k, p),
@@ -126,16 +155,5 @@ impl<'a> Tables<'a> {
             return 0;
         }
         usize::from(self.rows[8 * (first + (e - 1)) + q])
-    }
-}
-
-// The place of the station that the origin names; for a local step the record's own.
-#[tactic(auto, unfolding(crate::specs::Fault::sender_at))]
-fn sender_of(o: u8, p: usize) -> usize
-    ensures { result ≡ sender_at o p }
-{
-    match o {
-        0 => p,
-        _ => usize::from(o) - 1,
     }
 }

@@ -1,4 +1,5 @@
 // Levels as 12 bits, as excess numbers and as signed numbers.
+// `as` narrows only what is proved to fit; `try_from` would add an error that cannot occur.
 #![tactic(auto)]
 
 ghost use Rattle.std.specs.Prelude.{◌≡◌, ◌%◌};

@@ -51,10 +51,10 @@ level_signed f z h e =
     to_z-of_z near ∙ g
 
 -- .. where they are a start level's
-pub start_signed : (lead w : ℕ) (s : List ℕ) (p b f : ℕ) (z : ℤ) → b ≡ station_bit lead w p → f ≡ peeked s (b + w) 12 → z ≡ twos 12 (f % 4096) → to_z w16 (of_z w16 z) ≡ start_at lead w s p
+pub start_signed : (lead w : ℕ) (s : List ℕ) (p b f : ℕ) (z : ℤ) → b ≡ station_bit lead w p + w → f ≡ peeked s b 12 → z ≡ twos 12 (f % 4096) → to_z w16 (of_z w16 z) ≡ start_at lead w s p
 unfolding start_at
 start_signed lead w s p b f z eb ef g =
-    let (e, h) = peeked_read s (b + w) (station_bit lead w p + w) 12 12 f ef (ap (λ (i : ℕ). i + w) eb) (omega arith) (omega arith) in
+    let (e, h) = peeked_read s b (station_bit lead w p + w) 12 12 f ef eb (omega arith) (omega arith) in
     level_signed f z h g ∙ ap (twos 12) e
 
 -- the full cut's n and counts
@@ -142,23 +142,24 @@ module _ (lead w : ℕ) (s : List ℕ) (full : Cut) (ef : full ≡ full_of lead 
       go (no g) = rw (le-ltb q n (omega arith)) (counted_beyond w s n (b + 16 + w) q (omega arith))
 
   -- an event with a record, by what was looked at from its first bit b on
-  pub found_of-event : w ≤ 9 → (e : ℕ) → (e ≡ 0 → ⊥) → e ≤ m_at lead w s p → (f b : ℕ) → f ≡ sum (take p full.counts) → b ≡ record_bit lead w n (f + (e - 1))
-      → (o k l : ℕ) (z : ℤ) (t : List ℕ) → o ≡ peeked s b 4 → k ≡ peeked s (b + 4) w → l ≡ peeked s (b + 4 + w) 12 → z ≡ twos 12 (l % 4096) → t ≡ tab 8 (counted w s n (b + 16 + w))
+  pub found_of-event : w ≤ 9 → (e : ℕ) → (e ≡ 0 → ⊥) → e ≤ m_at lead w s p → (f b : ℕ) → f ≡ sum (take p full.counts) → b ≡ record_bit lead w n (f + (e - 1)) → (v : ℕ) → v ≡ record_bit lead w n (f + (e - 1)) + 4 + w
+      → (o k l : ℕ) (z : ℤ) (t : List ℕ) → o ≡ peeked s b 4 → k ≡ peeked s (b + 4) w → l ≡ peeked s v 12 → z ≡ twos 12 (l % 4096) → t ≡ tab 8 (counted w s n (record_bit lead w n (f + (e - 1)) + 16 + w))
       → ◌≡◌ {A = Record} (record { origin = o; number = k; level = to_z w16 (of_z w16 z); stamp = t }) (found_of R p e)
   unfolding found_of origin_at number_at level_at
-  found_of-event hw zero h g f b ef eb o k l z t eo ek el ez et = absurd (h refl)
-  found_of-event hw (suc e) h g f b ef eb o k l z t eo ek el ez et = go (rw r at eb)
+  found_of-event hw zero h g f b ef eb v ev o k l z t eo ek el ez et = absurd (h refl)
+  found_of-event hw (suc e) h g f b ef eb v ev o k l z t eo ek el ez et = go (rw r at eb) (rw r at ev) (rw r at et)
     where
       r : f + (suc e - 1) ≡ first_at lead w s p + e
       r = omega (arith, records_before)
 
-      go : b ≡ record_bit lead w n (first_at lead w s p + e) → ◌≡◌ {A = Record} (record { origin = o; number = k; level = to_z w16 (of_z w16 z); stamp = t }) (found_of R p (suc e))
-      go b-is =
+      go : b ≡ record_bit lead w n (first_at lead w s p + e) → v ≡ record_bit lead w n (first_at lead w s p + e) + 4 + w
+          → t ≡ tab 8 (counted w s n (record_bit lead w n (first_at lead w s p + e) + 16 + w)) → ◌≡◌ {A = Record} (record { origin = o; number = k; level = to_z w16 (of_z w16 z); stamp = t }) (found_of R p (suc e))
+      go b-is v-is t-is =
           let i = record_bit lead w n (first_at lead w s p + e) in
           let o-is = (peeked_read s b i 4 4 o eo b-is (omega arith) (omega arith)).0 in
           let k-is = (peeked_read s (b + 4) (i + 4) w 9 k ek (ap (λ (j : ℕ). j + 4) b-is) hw (omega arith)).0 in
-          let (l-is, l-low) = peeked_read s (b + 4 + w) (i + 4 + w) 12 12 l el (ap (λ (j : ℕ). j + 4 + w) b-is) (omega arith) (omega arith) in
-          rw (o-is, k-is, level_signed l z l-low ez, l-is, et, tab_same 8 _ _ (λ q j. place_counted e (omega arith) b b-is q), origin_read lead w s p e (omega (arith, en)) (omega arith), number_read lead w s p e (omega (arith, en)) (omega arith), level_read lead w s p e (omega (arith, en)) (omega arith), en)
+          let (l-is, l-low) = peeked_read s v (i + 4 + w) 12 12 l el v-is (omega arith) (omega arith) in
+          rw (o-is, k-is, level_signed l z l-low ez, l-is, t-is, tab_same 8 _ _ (λ q j. place_counted e (omega arith) i refl q), origin_read lead w s p e (omega (arith, en)) (omega arith), number_read lead w s p e (omega (arith, en)) (omega arith), level_read lead w s p e (omega (arith, en)) (omega arith), en)
           refl
 
 -- the answers

@@ -1,10 +1,11 @@
 // The lookup of one record of a packed recording, after the recording's checks.
+// `as` narrows only what is proved to fit; `try_from` would add an error that cannot occur.
 #![tactic(auto)]
 
-ghost use Rattle.std.specs.Prelude.{◌≡◌, ◌&&◌, ◌+◌, ◌-◌, ◌*◌, ◌≤◌, ◌<◌, leb, sum, take};
+ghost use Rattle.std.specs.Prelude.{◌≡◌, ◌&&◌, ◌+◌, ◌-◌, ◌≤◌, ◌<◌, leb, sum, take};
 ghost use Rattle.cuts.specs.Below.{tab};
 ghost use Rattle.cuts.specs.Cut.{at};
-ghost use Rattle.recording.specs.Form.{m_at, recording_of, lead8, width8};
+ghost use Rattle.recording.specs.Form.{m_at, record_bit, recording_of, lead8, width8};
 ghost use Rattle.recording.specs.Decode.{full_of};
 ghost use Rattle.lookup.specs.Lookup.{lookup_of, found_of, counted};
 
@@ -12,7 +13,8 @@ use cut::Cut;
 use recording::Form;
 use refusal::{Reason, Refusal};
 
-// One record: the places of its stamp beyond n are 0. An array of eight, of which n are used, stays: fixed memory, no heap.
+// One record: the places of its stamp beyond n are 0, and event 0 has origin 0 and number 0, as the law says (`found_of`). An array of eight, of which n
+// are used, stays: fixed memory, no heap.
 #[derive(Clone, Copy, Debug, PartialEq, Eq)]
 pub struct Record {
     pub origin: u8,
@@ -51,16 +53,17 @@ fn found_at(s: &[u8], form: Form, full: Cut, p: u8, e: u16) -> Record
         return Record {
             origin: 0,
             number: 0,
-            level: levels::signed(bits::peek(s, form.station_bit(p) + form.width, 12)),
+            level: levels::signed(bits::peek(s, form.start_bit(p), 12)),
             stamp: [0; 8],
         };
     }
-    let b = form.record_bit(full.n, first(full, p) + (e - 1));
+    let r = first(full, p) + (e - 1);
+    let b = form.record_bit(full.n, r);
     Record {
         origin: bits::peek(s, b, 4) as u8,
         number: bits::peek(s, b + 4, form.width),
-        level: levels::signed(bits::peek(s, b + 4 + form.width, 12)),
-        stamp: stamp(s, form.width, full.n, b + 16 + form.width),
+        level: levels::signed(bits::peek(s, form.level_bit(full.n, r), 12)),
+        stamp: stamp(s, form, full.n, r),
     }
 }
 
@@ -72,14 +75,14 @@ fn first(full: Cut, p: u8) -> u16
     full.counts[..usize::from(p)].iter().sum()
 }
 
-// A stamp whose n counts begin at the bit b, 0 in the places beyond n.
-fn stamp(s: &[u8], width: usize, n: u8, b: usize) -> [u16; 8]
-    requires { (width ≤ 9) × (n ≤ 8) × (b ≤ 200000100) }
-    ensures { result ≡ tab 8 (counted width s.now n b) }
+// The stamp of record r of n stations', 0 in the places beyond n.
+fn stamp(s: &[u8], form: Form, n: u8, r: u16) -> [u16; 8]
+    requires { n ≤ 8 }
+    ensures { result ≡ tab 8 (counted form.width s.now n (record_bit form.lead form.width n r + 16 + form.width)) }
 {
     let mut stamp = [0; 8];
-    for q in 0..usize::from(n) {
-        stamp[q] = bits::peek(s, b + width * q, width);
+    for q in 0..n {
+        stamp[usize::from(q)] = bits::peek(s, form.stamp_bit(n, r, q), form.width);
     }
     stamp
 }

@@ -29,15 +29,11 @@ use Rattle.marks.proofs.BackLaws.{rank_full}
 use Rattle.marks.proofs.WalkLaws.{front}
 use Rattle.std.proofs.Math.Option as math
 
--- row b of the tables, held at the largest number of the machine
-pub row_there-is : (cells rows b : ℕ) → rows < 2 ^ 64
-    → (ltb (min b (2 ^ 64 - 1)) rows && ltb (min b (2 ^ 64 - 1)) (cells / 8)) ≡ row_there cells rows b
+-- row b of the tables, r held at the largest number of the machine
+pub row_there-is : (cells rows b r : ℕ) → r ≡ min b (2 ^ 64 - 1) → rows < 2 ^ 64 → (ltb r rows && ltb r (cells / 8)) ≡ row_there cells rows b
 unfolding row_there
-row_there-is cells rows b h = tests_same _ _ reads tests
+row_there-is cells rows b r held h = tests_same _ _ reads tests
   where
-    r : ℕ
-    r = min b (2 ^ 64 - 1)
-
     reads : (ltb r rows && ltb r (cells / 8)) ≡ true → (ltb b rows && leb (8 * b + 8) cells) ≡ true
     reads t =
         let (x, y) = and_true (ltb r rows) (ltb r (cells / 8)) t in
@@ -98,41 +94,31 @@ module _ (m : Cut) (bases : List ℕ) (cells rows marks path : ℕ) where
           && every m.n (λ p. row_there cells rows (at bases p + at m.counts p))) ≡ true
       tests f = and_both (and_both (and_both (and_both ((is_full-is m).1 f.full) (le-leb _ _ f.limit)) (le-leb _ _ f.fits)) (le-leb _ _ f.way)) f.there
 
-  -- what the tests of the size, of the rooms and of the rows say
-  module _ (size steps : ℕ) (all : Bool) (is-box : size ≡ box_of m) (is_some : 1 ≤ size) (is-total : steps ≡ events_of m)
-      (is_all : all ≡ every m.n (λ p. row_there cells rows (at bases p + at m.counts p))) where
-    full : FullCut m
-    full = full_sized m size is-box is_some
+  pub not_settleable : (Settleable m bases cells rows marks path → ⊥) → settleable m bases cells rows marks path ≡ false
+  not_settleable h = refuted _ (λ s. h (settleable_is.0 s))
 
-    pub tests_passed : (leb size 65536 && leb size marks && leb steps path && all) ≡ true → Settleable m bases cells rows marks path × (size ≡ box (counts_of m))
-    tests_passed t =
-        let (x, d) = and_true (leb size 65536 && leb size marks && leb steps path) all t in
-        let (y, c) = and_true (leb size 65536 && leb size marks) _ x in
-        let (a, b) = and_true (leb size 65536) _ y in
-        let e : size ≡ box (counts_of m) = omega (arith, leb-true size 65536 a, box_of-full m full) in (
+  module _ (size : ℕ) (is-box : size ≡ box_of m) where
+    -- the size of a box that can be settled
+    pub settled_size : Settleable m bases cells rows marks path → (size ≡ box (counts_of m)) × (1 ≤ size) × (size ≤ 65536)
+    settled_size f =
+        let e : size ≡ box (counts_of m) = omega (arith, box_of-full m f.full, f.limit) in
+        (e, omega (arith, box_pos (counts_of m)), omega (arith, f.limit))
+
+    -- what the tests of the size, of the rooms and of the rows say
+    pub tests_passed : (steps : ℕ) → 1 ≤ size → size ≤ 65536 → size ≤ marks → steps ≡ events_of m → steps ≤ path
+        → every m.n (λ p. row_there cells rows (at bases p + at m.counts p)) ≡ true → Settleable m bases cells rows marks path × (size ≡ box (counts_of m))
+    tests_passed steps some limit fits is-total way there =
+        let full = full_sized m size is-box some in
+        let e : size ≡ box (counts_of m) = omega (arith, box_of-full m full) in (
           record {
             full = full;
-            limit = omega (arith, leb-true size 65536 a);
-            fits = omega (arith, leb-true size marks b);
-            way = omega (arith, leb-true steps path c, events_of-full m full);
-            there = sym is_all ∙ d;
+            limit = omega arith;
+            fits = omega arith;
+            way = omega (arith, events_of-full m full);
+            there = there;
           },
           e,
         )
-
-    pub tests_failed : (leb size 65536 && leb size marks && leb steps path && all) ≡ false → settleable m bases cells rows marks path ≡ false
-    tests_failed t = refuted _ (λ s. no (settleable_is.0 s))
-      where
-        no : Settleable m bases cells rows marks path → ⊥
-        no f =
-            let e : size ≡ box (counts_of m) = omega (arith, box_of-full m full, f.limit) in
-            false≢true
-            (sym t
-            ∙ and_both (and_both (and_both (le-leb size 65536 (omega (arith, f.limit))) (le-leb size marks (omega (arith, f.fits)))) (le-leb steps path (omega (arith, f.way, events_of-full m full)))) (is_all ∙ f.there))
-
-  -- .. and a box without a cut cannot be settled
-  pub no_box : (size : ℕ) → size ≡ box_of m → size < 1 → settleable m bases cells rows marks path ≡ false
-  no_box size e h = refuted _ (λ s. let f = settleable_is.0 s in absurd (omega (arith, box_of-full m f.full, box_pos (counts_of m))))
 
 module _ (task : Task) where
   -- a box that can be settled has all that its rows are filled from

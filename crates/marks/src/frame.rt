@@ -1,5 +1,6 @@
 // A box that can be settled: it is filled row by row of station 1, and the verdicts, the witness and the path are read off the marks.
 // The cuts of a row differ in their first count only, and what the other stations need and add is worked out once a row.
+// `as` narrows only what is proved to fit; `try_from` would add an error that cannot occur.
 ghost use Rattle.std.specs.Prelude.{◌≡◌, not, ◌&&◌, ◌++◌, ◌+◌, ◌-◌, ◌≤◌, ◌<◌, ltb, eqb, length, drop, set, replicate, IfSome};
 ghost use Rattle.cuts.specs.Below.{first};
 ghost use Rattle.cuts.specs.Cut.{at, total};
@@ -12,7 +13,7 @@ use crate::{Task, Verdicts};
 use cut::Cut;
 
 // A task whose box can be settled, the size of the box, and what one event of each station adds to a rank.
-#[derive(Clone, Copy)]
+#[derive(Clone, Copy, Debug, PartialEq, Eq)]
 pub struct Frame<'a> {
     pub task: Task<'a>,
     size: usize,
@@ -23,7 +24,7 @@ pub struct Frame<'a> {
 }
 
 // What the stations but the first ask of the cuts of a row and add to them: so many events of station 1, and so much to the sum.
-#[derive(Clone, Copy)]
+#[derive(Clone, Copy, Debug, PartialEq, Eq)]
 struct Others {
     low: usize,
     sum: usize,
@@ -86,6 +87,7 @@ impl<'a> Frame<'a> {
     }
 
     // The mark of the cut with these counts, the first of which is x, and rank r, from those of the ranks below; the other stations are met, and add sum.
+    // Marks are bytes of a lent room, which C reads too: numbers, and no enum.
     fn mark(&self, sum: usize, marks: &[u8], counts: &[u16; 8], x: usize, r: usize) -> u8
         requires { (sum ≤ 524280) × (x ≤ at self.now.task.full.counts 0) × StepsBack self.now.task.full.n counts.now self.now.strides r × (r ≤ length marks.now) }
         ensures { result ≡ cut_mark self.now.task sum marks.now counts.now x r }
@@ -95,9 +97,10 @@ impl<'a> Frame<'a> {
             return 0;
         }
         let total = sum + usize::from(self.task.weights[at]);
-        if (self.task.least <= total) & (total <= self.task.most) {
+        if (self.task.least..=self.task.most).contains(&total) {
             return 1;
         }
+        // Only one cut has rank 0, so that `||` would spare next to nothing: tried, a box took up to 3 in 100 longer.
         2 + u8::from((r == 0) | self.first_back(marks, counts, r).is_some())
     }
 
@@ -119,17 +122,19 @@ impl<'a> Frame<'a> {
         Some(Others { low, sum })
     }
 
-    // Whether the row of needs that starts at place from asks no more than the counts. From the last station on: a row's last cut has all events of station 1.
+    // Whether the row of needs that starts at place from asks no more than the counts. All eight are looked at, so that the machine can do it at one time: a
+    // search that ends at the first took up to 1.5 times as long for a whole box.
     fn row_met(&self, from: usize, counts: &[u16; 8]) -> bool
         requires { from + 8 ≤ length self.now.task.needs.now }
         ensures { result ≡ row_met self.now.task.full.n self.now.task.needs.now from counts.now }
     {
-        for q in (0..self.stations()).rev() {
-            if counts[q] < self.task.needs[from + q] {
-                return false;
-            }
+        let n = self.task.full.n;
+        let mut met = true;
+        for q in 0..8u8 {
+            let place = usize::from(q);
+            met &= (n <= q) | (self.task.needs[from + place] <= counts[place]);
         }
-        true
+        met
     }
 
     // The place of the first station whose step back from the cut of rank r leads to a 3, if one does.
@@ -137,12 +142,7 @@ impl<'a> Frame<'a> {
         requires { StepsBack self.now.task.full.n counts.now self.now.strides r × (r ≤ length marks.now) }
         ensures { (result ≡ place_of self.now.task.full.n (first (leads_back marks.now counts.now self.now.strides r) self.now.task.full.n)) × IfSome result (λ p. (p < self.now.task.full.n) × (0 < at counts.now p) × (at self.now.strides p ≤ r)) }
     {
-        for p in 0..self.stations() {
-            if leads_back(marks, counts[p], self.strides[p], r) {
-                return Some(p);
-            }
-        }
-        None
+        (0..self.stations()).find(|&p| leads_back(marks, counts[p], self.strides[p], r))
     }
 
     // Whether the full cut is marked other than 3; where it is marked 3 the way back from it, as station numbers, into the front of the room.
@@ -209,7 +209,7 @@ fn leads_back(marks: &[u8], x: u16, s: usize, r: usize) -> bool
     requires { (0 < x → (1 ≤ s) × (s ≤ r)) × (r ≤ length marks.now) }
     ensures { result ≡ (ltb 0 x && eqb (at marks.now (r - s)) 3) }
 {
-    (0 < x) && (marks[r - s] == 3)
+    0 < x && marks[r - s] == 3
 }
 
 // The counts of the last cut of row j, by division. No method of the frame: tried as one, it kept the frame in memory, and a box took 5 to 14 in 100 longer.
@@ -226,7 +226,8 @@ fn lay_top(full: Cut, j: usize, counts: &mut [u16; 8])
     }
 }
 
-// What one event of each station adds to a rank.
+// What one event of each station adds to a rank. Two arrays go by one place: `iter_mut` and `zip` would have to cut the counts to n besides, and are no
+// plainer.
 fn strides_of(full: Cut) -> [usize; 8]
     requires { FullCut full × (box (counts_of full) ≤ 65536) }
     ensures { result ≡ strides_of full }
@@ -244,16 +245,12 @@ fn strides_of(full: Cut) -> [usize; 8]
 fn first_one(marks: &[u8]) -> Option<usize>
     ensures { result ≡ place_of (length marks.now) (first (λ r. eqb (at marks.now r) 1) (length marks.now)) }
 {
-    for r in passed_over(marks)..marks.len() {
-        if marks[r] == 1 {
-            return Some(r);
-        }
-    }
-    None
+    let from = passed_over(marks);
+    marks[from..].iter().position(|m| *m == 1).map(|r| from + r)
 }
 
 // So many ranks, in pieces of 256, none of which is marked 1. `contains` looks at many marks at a time, and `position` at one: tried over a whole box, that
-// took 21 us, and the pieces take 2.
+// took 21 us, and the pieces take 2. A chain of `chunks_exact`, `take_while` and `count` says the same: tried, and its proof did not close.
 fn passed_over(marks: &[u8]) -> usize
     ensures { (result ≤ length marks.now) × NoneTo marks.now result }
 {

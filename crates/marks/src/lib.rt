@@ -12,7 +12,8 @@ use frame::Frame;
 mod frame;
 
 // What is to be settled: a recording as its full cut, where each station's rows of the tables begin, from where to where a sum satisfies, and the two tables.
-#[derive(Clone, Copy)]
+// They lie flat, eight needs and one weight a row, as `Settles` has them.
+#[derive(Clone, Copy, Debug, PartialEq, Eq)]
 pub struct Task<'a> {
     pub full: Cut,
     pub bases: [usize; 8],
@@ -23,7 +24,7 @@ pub struct Task<'a> {
 }
 
 // Both verdicts: the witness of Poss, if it is yes, and Def.
-#[derive(Clone, Copy)]
+#[derive(Clone, Copy, Debug, PartialEq, Eq)]
 pub struct Verdicts {
     pub witness: Option<Cut>,
     pub def: bool,
@@ -44,10 +45,10 @@ impl<'a> Task<'a> {
         ensures { MatchOption result (can_settle self.entry marks path ≡ false) (λ f. (can_settle self.entry marks path ≡ true) × (f.task ≡ self.entry)) }
     {
         let size = cut::box_of(self.full);
-        if size < 1 {
+        if !(1..=65536).contains(&size) {
             return None;
         }
-        if (size <= 65536) & (size <= marks) & (cut::events(self.full) <= path) & self.covered() {
+        if size <= marks && cut::events(self.full) <= path && self.covered() {
             return Some(Frame::new(self, size));
         }
         None
@@ -58,12 +59,7 @@ impl<'a> Task<'a> {
         requires { self.now.full.n ≤ 8 }
         ensures { result ≡ every self.now.full.n (λ p. row_there (length self.now.needs.now) (length self.now.weights.now) (at self.now.bases p + at self.now.full.counts p)) }
     {
-        for p in 0..usize::from(self.full.n) {
-            if !self.has_row(self.bases[p], self.full.counts[p]) {
-                return false;
-            }
-        }
-        true
+        (0..usize::from(self.full.n)).all(|p| self.has_row(self.bases[p], self.full.counts[p]))
     }
 
     // Whether the tables have row base + e: eight cells and one number.
@@ -71,6 +67,6 @@ impl<'a> Task<'a> {
         ensures { result ≡ row_there (length self.now.needs.now) (length self.now.weights.now) (base + e) }
     {
         let row = base.saturating_add(usize::from(e));
-        (row < self.weights.len()) & (row < self.needs.len() / 8)
+        row < self.weights.len() && row < self.needs.len() / 8
     }
 }

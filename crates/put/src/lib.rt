@@ -1,5 +1,6 @@
 // Fields of 1 to 16 bits are put into a slice of bytes, most significant bit first.
 // A place is a bit's number in the slice, from 0; a slice may have more bits than a usize can count.
+// `as` narrows only what is proved to fit; `try_from` would add an error that cannot occur.
 #![tactic(auto)]
 
 ghost use Rattle.std.specs.Prelude.{◌≡◌, ◌+◌, ◌*◌, ◌<◌, length};

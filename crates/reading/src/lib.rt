@@ -7,6 +7,9 @@ ghost use Rattle.std.specs.Io.KnownBytes.{Consumes, IsAtEnd};
 
 use std::io::{self, Read};
 
+// The longest that two bytes can announce.
+pub const ANNOUNCED: usize = 65535;
+
 // Reads until the room is full or the input ends; how many bytes there were. They stand in the front of the room, and so do those that were read before an error.
 pub fn read_full<R: Read>(input: &mut R, room: &mut [u8]) -> io::Result<usize>
     ensures prefix_len { ReadsAtMost result room.new }
@@ -28,7 +31,7 @@ pub fn read_full<R: Read>(input: &mut R, room: &mut [u8]) -> io::Result<usize>
 
 // The length that two bytes say, high first.
 pub fn length_of(head: [u8; 2]) -> usize
-    ensures { (result ≡ slice_index head 0 * 256 + slice_index head 1) × (result ≤ 65535) }
+    ensures { (result ≡ slice_index head 0 * 256 + slice_index head 1) × (result ≤ ANNOUNCED) }
 {
     usize::from(u16::from_be_bytes(head))
 }

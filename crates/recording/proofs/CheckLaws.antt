@@ -1,6 +1,6 @@
 -- Laws of the checks: the first test that fails; the first refusal of a scan, which is the first faulty place in file order; and loops over them.
 -- In order: tests; refusals of a record and of the whole; scans. Assumes nothing.
-use mathlib.Core.Path.{◌≡◌, refl, ap, ◌∙◌}
+use mathlib.Core.Path.{◌≡◌, refl, sym, ap, ◌∙◌}
 use mathlib.Core.Bool.{Bool, true, false, cond}
 use mathlib.Core.Logic.{⊎_elim}
 use mathlib.Core.List.{List, [], ◌∷◌}
@@ -8,9 +8,14 @@ use Prim.Native.Nat.{ℕ, zero, suc, ◌+◌, ◌-◌, ◌<◌}
 use native.Mathlib.Nat.{add-zero, add-suc, not-suc-le-zero}
 use native.Mathlib.Numerals.{add-one}
 use native.Mathlib.Omega.{arith}
+use lib.ListN.{length}
+use borrow.Author.Tests.{lt-ltb}
 use Rattle.std.specs.Prelude.{Ok, Err}
+use Rattle.cuts.specs.Cut.{at}
+use Rattle.cuts.specs.Trace.{Messages}
 use Rattle.cuts.proofs.BelowLaws.{last_or_below}
-use Rattle.recording.specs.Check.{Test, test, fault_of, scan_to}
+use Rattle.recording.specs.Check.{Test, test, fault_of, scan_to, scan_records}
+use Rattle.recording.specs.Fault.{scanned_faults, fault_in}
 use Rattle.refusal.specs.Refusal.{Tested, Checked, whole, of_record, at_whole, at_record, or_else}
 use Rattle.refusal.specs.declared.Reason.{Reason}
 use Rattle.refusal.specs.declared.Refusal.{Refusal}
@@ -132,10 +137,10 @@ scan_keep f j zero x h e = rw (add-zero (suc j), h) e
 scan_keep f j (suc d) x h e = rw (add-suc (suc j) d, scan_keep f j d x h e) refl
 
 -- a scan stops at the first refusal
-pub scan_found : (f : ℕ → Checked) (j n : ℕ) (x : Refusal) → j < n → scan_to j f ≡ Ok tt → f j ≡ Err x → scan_to n f ≡ Err x
+pub scan_found : (f : ℕ → Checked) (j n : ℕ) (x : Refusal) → j < n → scan_to j f ≡ Ok tt → Err x ≡ f j → Err x ≡ scan_to n f
 scan_found f j n x l h e =
     let k : suc j + (n - suc j) ≡ n = omega arith in
-    rw k at (scan_keep f j (n - suc j) x h e)
+    sym (rw k at (scan_keep f j (n - suc j) x h (sym e)))
 
 -- where a scan refuses, one place does, and none before it
 pub scan_first : (f : ℕ → Checked) (n : ℕ) (x : Refusal) → scan_to n f ≡ Err x
@@ -148,3 +153,11 @@ scan_first f (suc n) x h = go (scan_to n f) refl h (scan_first f n)
         → (j : ℕ) × (j < suc n) × (f j ≡ Err x) × ((i : ℕ) → i < j → f i ≡ Ok tt)
     go (Ok u) e k ih = (n, omega arith, k, λ i l. scan_accepted f n e i l)
     go (Err y) e k ih = let (j, l, a, b) = ih x (e ∙ k) in (j, omega arith, a, b)
+
+-- a scan for the faults of records, where nothing is wrong with a record that is not there, is that of all records by their tests
+pub faults_scanned : (T : Messages) (tests : ℕ → ℕ → List Test) (n : ℕ) (m : List ℕ) → length T.counts ≡ n → ((p : ℕ) → p < n → at m p ≡ at T.counts p)
+    → scanned_faults n m (fault_in n m (λ p e. fault_of (tests p e))) ≡ scan_records T tests
+unfolding scanned_faults fault_in scan_records
+faults_scanned T tests n m en em =
+    rw en
+    (scan_same n _ _ (λ p hp. rw (← (em p hp)) (scan_same (at m p) _ _ (λ e he. rw (lt-ltb p n hp, lt-ltb e (at m p) he) refl))))

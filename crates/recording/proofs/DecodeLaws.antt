@@ -100,9 +100,9 @@ module _ (lead w : ℕ) (s : List ℕ) (n : ℕ) where
   stamp_cell-none r q h k = stamp_cell-beyond (8 * r + q) (omega arith)
 
   -- a level that was looked at
-  pub level_read : (r b x y : ℕ) → b ≡ record_bit lead w n r → x ≡ peeked s (b + 4 + w) 12 → y ≡ excess_of x → y ≡ level_cell lead w s n r
+  pub level_read : (r b x y : ℕ) → b ≡ record_bit lead w n r + 4 + w → x ≡ peeked s b 12 → y ≡ excess_of x → y ≡ level_cell lead w s n r
   unfolding level_cell level_at
-  level_read r b x y eb ex ey = ey ∙ ap excess_of (peeked_read s _ _ 12 12 x ex (ap (λ (i : ℕ). i + 4 + w) eb) (omega arith) (omega arith)).0
+  level_read r b x y eb ex ey = ey ∙ ap excess_of (peeked_read s _ _ 12 12 x ex eb (omega arith) (omega arith)).0
 
 -- a room that has k numbers, for a recording of n stations
 pub fits_true : (n k room : ℕ) → (leb n 8 && leb k room) ≡ true → (n ≤ 8) × (k ≤ room)

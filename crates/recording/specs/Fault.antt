@@ -1,9 +1,9 @@
 -- The faults of the whole, of a record and of a station, by their tests; the fault of a record out of flat tables is in `faults`. Nothing here has to be
 -- believed: it only gives names to what the checks ask.
-use Rattle.std.specs.Prelude.{List, [], ◌∷◌, ℕ, ◌-◌, ◌*◌, length, leb, eqb}
+use Rattle.std.specs.Prelude.{◌&&◌, cond, List, [], ◌∷◌, ℕ, ◌-◌, ◌*◌, length, leb, ltb, eqb, Ok}
 use Rattle.bits.specs.Bits.{field}
 use Rattle.cuts.specs.Cut.{at}
-use Rattle.recording.specs.Recording.{Recording, counts_of, messages, stamps}
+use Rattle.recording.specs.Recording.{Recording, messages, stamps}
 use Rattle.recording.specs.Form.{bytes_for}
 use Rattle.recording.specs.Check.{test, fault_of, scan_to, record_tests, form_tests}
 use Rattle.refusal.specs.Refusal.{Tested, Checked, at_record}
@@ -25,10 +25,11 @@ end_fault s b =
 unfoldable pub fault_at : Recording → ℕ → ℕ → Tested
 fault_at R p e = fault_of (record_tests (messages R) (stamps R) p e)
 
--- the refusal that it calls for, if any
-unfoldable pub checked_record : Recording → ℕ → ℕ → Checked
-checked_record R p e = at_record p e (fault_at R p e)
+-- the first refusal among the records of n stations that have m events, in file order, where `fault` is what is wrong with event e + 1 of the station at
+-- place p
+unfoldable pub scanned_faults : ℕ → List ℕ → (ℕ → ℕ → Tested) → Checked
+scanned_faults n m fault = scan_to n (λ p. scan_to (at m p) (λ e. at_record p e (fault p e)))
 
--- the first refusal among the records of the station at place p
-unfoldable pub checked_station : Recording → ℕ → Checked
-checked_station R p = scan_to (at (counts_of R) p) (checked_record R p)
+-- what is wrong with that record where there is one; nothing where there is none
+unfoldable pub fault_in : ℕ → List ℕ → (ℕ → ℕ → Tested) → ℕ → ℕ → Tested
+fault_in n m fault p e = cond (ltb p n && ltb e (at m p)) (fault p e) (Ok tt)

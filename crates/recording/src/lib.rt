@@ -1,4 +1,5 @@
 // The packed recording of document 01: checked, laid out flat.
+// `as` narrows only what is proved to fit; `try_from` would add an error that cannot occur.
 #![tactic(auto)]
 
 ghost use Rattle.std.specs.Prelude.{◌≡◌};
@@ -11,11 +12,14 @@ ghost use Rattle.recording.specs.declared.DecodeError.TheVariants.{Refused};
 mod form;
 mod packed;
 mod records;
+mod scan;
 
 use cut::Cut;
 pub use form::{Form, bytes_for};
-use packed::{CELLS, Packed};
-pub use refusal::{Reason, Refusal};
+use packed::Packed;
+pub use packed::{CELLS, RECORDS};
+pub use refusal::Refusal;
+pub use scan::{Records, check_records};
 
 // Why a recording is not decoded: the checks refuse it, or a room is too short for its table.
 #[derive(Clone, Copy, Debug, PartialEq, Eq)]

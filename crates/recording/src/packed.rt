@@ -9,12 +9,15 @@ ghost use Rattle.recording.specs.Decoded.{RowsLaid};
 use crate::Form;
 use std::array;
 
-// The places of the largest table of stamps: eight for each of 4,088 records. Arrays of fixed length, here and below, of which the front is used, stay: fixed
+// The most records that a recording can have: eight stations with 511 events each, as many as nine bits can count.
+pub const RECORDS: usize = 4088;
+
+// The places of the largest table of stamps, eight for each of those records. Arrays of fixed length, here and below, of which the front is used, stay: fixed
 // memory, no heap.
 pub const CELLS: usize = 32704;
 
 // The lent bytes of a recording, in a form.
-#[derive(Clone, Copy)]
+#[derive(Clone, Copy, Debug, PartialEq, Eq)]
 pub struct Packed<'a> {
     pub form: Form,
     pub bytes: &'a [u8],
@@ -31,7 +34,7 @@ impl<'a> Packed<'a> {
         }
     }
 
-    // n, which the methods below are handed, so that it is read once.
+    // n. Whoever asks for many stations or records reads it once, and hands it to the methods that answer.
     pub fn stations(self) -> u8
         ensures { (result ≡ n_of self.entry) × (result < 16) }
     {
@@ -59,13 +62,7 @@ impl<'a> Packed<'a> {
     pub fn firsts(self, n: u8) -> [usize; 9]
         ensures { result ≡ tab 9 (over self.entry records_to n) }
     {
-        let mut f = [0usize; 9];
-        let mut before: usize = 0;
-        for p in 0..9u8 {
-            f[usize::from(p)] = before;
-            before += usize::from(self.events(n, p));
-        }
-        f
+        faults::firsts_of(&self.counts(n))
     }
 
     // T, for at most eight stations.
@@ -81,8 +78,7 @@ impl<'a> Packed<'a> {
         ensures { result ≡ over self.entry start_cell n p }
     {
         if p < n {
-            let at = self.form.station_bit(p) + self.form.width;
-            return levels::excess(bits::peek(self.bytes, at, 12));
+            return levels::excess(bits::peek(self.bytes, self.form.start_bit(p), 12));
         }
         0
     }
@@ -100,14 +96,13 @@ impl<'a> Packed<'a> {
         ensures { result ≡ over self.entry stamp_cell n (8 * r + q) }
     {
         if q < n {
-            let first = self.form.record_bit(n, r) + 16 + self.form.width;
-            let at = first + self.form.width * usize::from(q);
-            return bits::peek(self.bytes, at, self.form.width);
+            return bits::peek(self.bytes, self.form.stamp_bit(n, r, q), self.form.width);
         }
         0
     }
 
-    // The table of stamps into the front of `out`, eight places a record.
+    // The table of stamps into the front of `out`, eight places a record. The writer's of this name lays n places of a row and keeps the others: one function for
+    // both would take the width and a closure, and is no plainer than two loops.
     pub fn lay_stamps(self, out: &mut [u16; CELLS])
         requires { n_of self ≤ 8 }
         ensures { RowsLaid self.entry.form.lead self.entry.form.width self.entry.bytes.now out.new }
@@ -126,9 +121,9 @@ impl<'a> Packed<'a> {
         ensures { out.new ≡ tab total (over self.entry level_cell (n_of self.entry)) ++ drop total out.old }
     {
         let n = self.stations();
-        for r in 0..total {
-            let at = self.form.record_bit(n, r) + 4 + self.form.width;
-            out[usize::from(r)] = levels::excess(bits::peek(self.bytes, at, 12));
+        for (r, level) in out[..usize::from(total)].iter_mut().enumerate() {
+            let at = self.form.level_bit(n, r as u16);
+            *level = levels::excess(bits::peek(self.bytes, at, 12));
         }
     }
 }

@@ -1,15 +1,16 @@
 // The checks of a recording: of the whole, then record by record in file order.
-ghost use Rattle.std.specs.Prelude.{◌≡◌, ◌≤◌, ◌<◌};
+ghost use Rattle.std.specs.Prelude.{◌≡◌, ◌&&◌, ◌≤◌, ◌<◌, ltb};
 ghost use Rattle.cuts.specs.Cut.{at};
 ghost use Rattle.recording.specs.Form.{recording_of};
 ghost use Rattle.recording.specs.Check.{checked_records};
 ghost use Rattle.recording.specs.Decode.{Laid};
 ghost use Rattle.recording.specs.Packed.{over, n_of};
 ghost use Rattle.recording.specs.Decoded.{RowsLaid, CheckedRows};
-ghost use Rattle.recording.specs.Fault.{form_fault, end_fault, fault_at, checked_record, checked_station};
+ghost use Rattle.recording.specs.Fault.{form_fault, end_fault, fault_at, fault_in};
 
 use crate::bytes_for;
 use crate::packed::{CELLS, Packed};
+use crate::scan::{Records, check_records};
 use faults::Tables;
 use refusal::{Reason, Refusal};
 
@@ -59,7 +60,7 @@ impl<'a> Packed<'a> {
 }
 
 // A packed recording of one to eight stations, with the tables that its records are checked against.
-#[derive(Clone, Copy)]
+#[derive(Clone, Copy, Debug, PartialEq, Eq)]
 struct Tabled<'a> {
     packed: Packed<'a>,
     tables: Tables<'a>,
@@ -67,52 +68,46 @@ struct Tabled<'a> {
 }
 
 impl<'a> Tabled<'a> {
-    // The first refusal among the records, station by station.
+    // The first refusal among the records.
     fn check_records(&self) -> Result<(), Refusal>
         ensures { result ≡ checked_records (over self.now.packed recording_of) }
     {
-        for p in 0..self.tables.n {
-            self.check_station(p)?;
-        }
-        Ok(())
+        check_records(self.tables.n as u8, &self.tables.counts, self)
     }
 
-    // The first refusal among the records of the station at place p.
-    fn check_station(&self, p: usize) -> Result<(), Refusal>
-        requires { p < self.now.tables.n }
-        ensures { result ≡ checked_station (over self.now.packed recording_of) p }
+    // Whether the station at place p has an event e + 1. The writer's has the same words of its own tables, as each impl of `Records` says where its records end:
+    // a method of `Tables` would be one more public function, for one line.
+    fn has(&self, p: u8, e: u16) -> bool
+        ensures { result ≡ (ltb p self.now.tables.n && ltb e (at self.now.tables.counts p)) }
     {
-        for e in 0..self.tables.counts[p] {
-            self.check_record(p, e)?;
-        }
-        Ok(())
+        usize::from(p) < self.tables.n && e < self.tables.counts[usize::from(p)]
     }
 
-    // The refusal of event e + 1 of the station at place p, if any.
-    fn check_record(&self, p: usize, e: u16) -> Result<(), Refusal>
-        requires { (p < self.now.tables.n) × (e < at self.now.tables.counts p) }
-        ensures { result ≡ checked_record (over self.now.packed recording_of) p e }
-    {
-        let (station, event) = (p as u8 + 1, e + 1);
-        self.record_fault(p, e).map_err(|reason| Refusal {
-            reason,
-            station,
-            event,
-        })
-    }
-
-    // The first test of that record that fails.
-    fn record_fault(&self, p: usize, e: u16) -> Result<(), Reason>
+    // The first test that fails of event e + 1 of the station at place p.
+    fn record_fault(&self, p: u8, e: u16) -> Result<(), Reason>
         requires { (p < self.now.tables.n) × (e < at self.now.tables.counts p) }
         ensures { result ≡ fault_at (over self.now.packed recording_of) p e }
     {
         let packed = self.packed;
-        let r = self.tables.firsts[p] + usize::from(e);
+        let (p, e) = (usize::from(p), usize::from(e));
+        let r = self.tables.firsts[p] + e;
         let start = packed.form.record_bit(self.tables.n as u8, r as u16);
-        let o = (bits::peek(packed.bytes, start, 4) % 16) as u8;
+        let o = bits::peek(packed.bytes, start, 4) as u8;
         let k = bits::peek(packed.bytes, start + 4, packed.form.width);
-        self.tables
-            .message_fault(o, usize::from(k), p, usize::from(e))
+        self.tables.message_fault(o, usize::from(k), p, e)
+    }
+}
+
+impl<'a> Records for Tabled<'a> {
+    ghost wrong = { λ t p e. fault_in t.tables.n t.tables.counts (fault_at (over t.packed recording_of)) p e };
+
+    #[inline(always)]
+    #[tactic(auto, unfolding(crate::specs::Fault::fault_in))]
+    fn fault(&self, p: u8, e: u16) -> Result<(), Reason> {
+        if self.has(p, e) {
+            return self.record_fault(p, e);
+        }
+        Ok(())
     }
 }
 

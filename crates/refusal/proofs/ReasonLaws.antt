@@ -1,4 +1,4 @@
--- The law's numbers. In order: the code's are these; from 1 to 15; each reason has its own; one reply.
+-- The law's numbers. In order: the code's are these; each number is from 1 to 15; each reason has its own; one reply.
 use Rattle.std.proofs.Common.{◌≡◌, ℕ, ◌+◌, ◌-◌, ◌≤◌, List, [], ◌∷◌, get_or, refl, sym, arith}
 use mathlib.Core.Path.{ap, ◌∙◌}
 use denote.Enum.Declared.{tag_of}

@@ -40,7 +40,7 @@ pub enum Reason {
 }
 
 impl Reason {
-    // The law's number.
+    // The law's number. It is told by its name, and not by a `From` that any number could stand for: here the enum ends, and the number that is printed begins.
     pub fn number(self) -> u8
         ensures { result ≡ number_of self }
     {
@@ -48,7 +48,7 @@ impl Reason {
     }
 }
 
-// A refusal: its reason, with the station and event of the record that it is about, or 0 and 0.
+// A refusal: its reason, with the station and event of the record that it is about, or 0 and 0: numbers, no Option, as the law prints both.
 #[derive(Clone, Copy, Debug, PartialEq, Eq)]
 pub struct Refusal {
     pub reason: Reason,

@@ -1,4 +1,4 @@
--- The text printed of what `judge` promises is the text of the job's reply. In order: the lines of two verdicts; T, and the text that is printed; what a
+-- The text printed of what `judge` promises is the text of the job's reply. In order: the lines of two verdicts; T as the code has it; what a
 -- refused and an accepted reply tell of the job. Assumes nothing.
 use mathlib.Core.Path.{◌≡◌, refl, sym, ap, ap₂, subst, ◌∙◌}
 use mathlib.Core.Bool.{Bool, true, false, cond}
@@ -10,7 +10,7 @@ use Prim.Native.Nat.{ℕ, suc, pred, ◌≤◌, ◌<◌}
 use native.Mathlib.Nat.{suc-pred-eq_of_pos}
 use native.Mathlib.Omega.{arith}
 use lib.ListN.{length, take, replicate, length-take, length-replicate}
-use lib.Seq.{get_or-take, length-take-le}
+use lib.Seq.{get_or-take}
 use Rattle.cuts.specs.Cut.{at, total}
 use Rattle.cuts.specs.Computed.{poss_of, def_of}
 use Rattle.cut.specs.Value.{counts_of, events_of}
@@ -24,7 +24,7 @@ use Rattle.recording.specs.Decode.{full_of}
 use Rattle.recording.proofs.CheckLaws.{or_else-accepted, at_whole-accepted}
 use Rattle.condition.specs.Condition.{refused_of}
 use Rattle.condition.proofs.ConditionRight.{refused_0}
-use Rattle.text.specs.Text.{refused_text, poss_text, def_text, verdict_text, Printed}
+use Rattle.text.specs.Text.{refused_text, poss_text, def_text, verdict_text}
 use Rattle.engine.specs.Job.{part_of, m, L, checked_job, counts_in, poss_in, def_in, Verdicts, Judged, refused, accepted}
 use Rattle.reply.specs.Answer.{poss_line, def_line, text_of}
 use Rattle.reply.specs.Told.{events_in, path_in, Tells}
@@ -57,21 +57,6 @@ suc_pred (x ∷ l) h = ap₂ (λ (y : ℕ) (r : List ℕ). y ∷ r) (suc-pred-eq
 pub events_is : (job s : List ℕ) (full : Cut) (t : ℕ) → s ≡ part_of job → full ≡ full_of lead8 width8 s → t ≡ events_of full → t ≡ events_in job
 unfolding events_in
 events_is job s full t e f h = rw (f, e) at h
-
--- a text printed is that of the job
-pub printed_as : {a b before after : List ℕ} {r : rust.Option ℕ} → a ≡ b → Printed a before r after → Printed b before r after
-printed_as e p = rw e at p
-
--- the part of the path room that is the path, and the two lines with it
-module _ (job : List ℕ) (r : Reply) (path : List ℕ) (t : ℕ) (tells : Tells job r path) (v : Verdict) (a : r ≡ Ok v) (h : t ≡ events_in job) where
-  pub path_part : t ≤ length path
-  path_part = omega (arith, h, tells.holds v a)
-
-  pub verdicts_yes : v.def ≡ true → verdict_text (option_map counts_of v.witness) None ≡ text_of job
-  verdicts_yes d = rw d at (tells.accepted v a)
-
-  pub verdicts_no : v.def ≡ false → verdict_text (option_map counts_of v.witness) (Some (take t path)) ≡ text_of job
-  verdicts_no d = rw (d, ← h) at (tells.accepted v a)
 
 module _ (job marks path : List ℕ) (r : Reply) (marks' path' : List ℕ) (long : length marks ≡ 65536) (long' : length path ≡ 4088) (judged : Judged job marks path r marks' path') where
   checks : (v : Checked) → checked_job job (length marks) (length path) ≡ v → checked_job job 65536 4088 ≡ v

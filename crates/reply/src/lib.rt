@@ -14,7 +14,7 @@ pub fn answer(job: &[u8], room: &mut [u8]) -> Option<usize>
     ensures { Printed (text_of job.now) room.old result room.new }
 {
     let mut marks = [0u8; 65536];
-    let mut path = [0u8; 4088];
+    let mut path = [0u8; recording::RECORDS];
     let reply = engine::judge(job, &mut marks, &mut path);
     print(job, reply, &path, room)
 }

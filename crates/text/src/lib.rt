@@ -1,4 +1,5 @@
-// The printed text of a reply, put into a lent room where it fits: its length first, then its lines one after the other.
+// The printed text of a reply, put into a lent room where it fits: its length first, then its lines one after the other. Where the room is too short nothing
+// is put into it, which `write!` does not promise.
 #![tactic(auto)]
 
 ghost use Rattle.std.specs.Prelude.{◌≡◌, ◌+◌, ◌≤◌, ◌<◌, length, option_map, MatchOption, decimal};
@@ -10,13 +11,14 @@ use cut::Cut;
 use itoa::{Buffer, Integer};
 
 // A line: its word, then numbers with a space before each, then a newline.
-#[derive(Clone, Copy)]
+#[derive(Clone, Copy, Debug, PartialEq, Eq)]
 struct Line<'a, T> {
     word: &'a [u8],
     numbers: &'a [T],
 }
 
-// The line of a refusal and its length; None, and nothing is changed, where the room is too short.
+// The line of a refusal and its length; None, and nothing is changed, where the room is too short. Numbers are handed in, no `Refusal`: the text rests on no
+// crate that knows reasons.
 pub fn refused(number: u8, station: u8, event: u16, room: &mut [u8]) -> Option<usize>
     ensures { Printed (refused_text number station event) room.old result room.new }
 {

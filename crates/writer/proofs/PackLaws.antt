@@ -21,8 +21,8 @@ use Rattle.levels.proofs.LevelLaws.{level_field, level_bits_lem}
 use Rattle.cuts.specs.Cut.{at}
 use Rattle.recording.specs.Form.{bytes_for, station_bit, record_bit}
 use Rattle.writer.specs.Write.{Given, first_given}
-use Rattle.writer.specs.Tables.{level_bits}
-use Rattle.writer.proofs.WriterLaws.{level_bits-of}
+use Rattle.writer.specs.Tables.{level_put}
+use Rattle.writer.proofs.WriterLaws.{level_put-of}
 use Rattle.writer.specs.Pack.{turns, put_padding, put_count, put_pair, put_record, station_turn, record_turn, end_given, ended, stationed, pack_into}
 
 -- t is s but for bits from a on and before b
@@ -84,13 +84,13 @@ pub count_more : (w i q x : ℕ) (count : ℕ → ℕ) (s t : List ℕ) → x �
 unfolding put_count
 count_more w i q x count s t e h = rw e (turns_more (put_count w i count) s t q h)
 
-pub station_more : (lead w : ℕ) (g : Given) (p i m bits : ℕ) (s t : List ℕ) → i ≡ station_bit lead w p → m ≡ at g.counts p → bits ≡ level_bits (get_or g.starts p (pos 0))
+pub station_more : (lead w : ℕ) (g : Given) (p i m bits : ℕ) (s t : List ℕ) → i ≡ station_bit lead w p → m ≡ at g.counts p → bits ≡ level_put (get_or g.starts p (pos 0))
     → t ≡ turns (station_turn lead w g) s p → put_pair w i m bits t ≡ turns (station_turn lead w g) s (p + 1)
 unfolding station_turn
 station_more lead w g p i m bits s t e₁ e₂ e₃ h = rw (e₁, e₂, e₃) (turns_more (station_turn lead w g) s t p h)
 
 pub record_is : (lead w : ℕ) (g : Given) (r i o k bits : ℕ) (s t u x : List ℕ)
-    → i ≡ record_bit lead w g.n r → o ≡ at g.origins r → k ≡ at g.numbers r → bits ≡ level_bits (get_or g.levels r (pos 0)) → t ≡ put_of s i 4 o → u ≡ put_pair w (i + 4) k bits t
+    → i ≡ record_bit lead w g.n r → o ≡ at g.origins r → k ≡ at g.numbers r → bits ≡ level_put (get_or g.levels r (pos 0)) → t ≡ put_of s i 4 o → u ≡ put_pair w (i + 4) k bits t
     → x ≡ turns (put_count w (i + 16 + w) (λ q. at g.stamps (r * g.n + q))) u g.n → x ≡ record_turn lead w g r s
 unfolding record_turn put_record put_pair
 record_is lead w g r i o k bits s t u x e₁ e₂ e₃ e₄ e₅ e₆ e₇ = rw (e₇, e₆, e₅, e₁, e₂, e₃, e₄) refl
@@ -156,8 +156,8 @@ module _ (w i : ℕ) (count : ℕ → ℕ) where
       ∙ put_field (turns (put_count w i count) s q) (i + w * q) w (count q) h₁ h₂ r f
 
 -- a level's bits read back
-pub put_level : (s : List ℕ) (i bits : ℕ) (v : ℤ) → bits ≡ level_bits v → i + 12 ≤ 8 * length s → is_level v ≡ true → twos 12 (field (put_of s i 12 bits) i 12) ≡ v
-put_level s i bits v e h l = rw (e, level_bits-of v l) (ap (twos 12) (put_field s i 12 (bits_of 12 v) (omega arith) (omega arith) h (level_bits_lem v l)) ∙ level_field v l)
+pub put_level : (s : List ℕ) (i bits : ℕ) (v : ℤ) → bits ≡ level_put v → i + 12 ≤ 8 * length s → is_level v ≡ true → twos 12 (field (put_of s i 12 bits) i 12) ≡ v
+put_level s i bits v e h l = rw (e, level_put-of v l) (ap (twos 12) (put_field s i 12 (bits_of 12 v) (omega arith) (omega arith) h (level_bits_lem v l)) ∙ level_field v l)
 
 -- a station's part
 module _ (w i m bits : ℕ) (s : List ℕ) where
@@ -170,7 +170,7 @@ module _ (w i m bits : ℕ) (s : List ℕ) where
     unfolding put_pair
     station_count h₁ h₂ f = (kept_put (put_of s i w m) (i + w) 12 bits).beside i w (inl (le_refl (i + w))) ∙ put_field s i w m h₁ h₂ (omega arith) f
 
-    pub station_start : (v : ℤ) → bits ≡ level_bits v → is_level v ≡ true → twos 12 (field (put_pair w i m bits s) (i + w) 12) ≡ v
+    pub station_start : (v : ℤ) → bits ≡ level_put v → is_level v ≡ true → twos 12 (field (put_pair w i m bits s) (i + w) 12) ≡ v
     unfolding put_pair
     station_start v e l = put_level (put_of s i w m) (i + w) bits v e (rw (kept_put s i w m).long room) l
 
@@ -215,7 +215,7 @@ module _ (w i o k bits : ℕ) (count : ℕ → ℕ) (n : ℕ) (s : List ℕ) whe
         kept₄.beside (i + 4) w (inl (omega arith)) ∙ kept₃.beside (i + 4) w (inl (omega arith))
         ∙ put_field s₁ (i + 4) w k h₁ h₂ (rw kept₁.long (omega arith)) f
 
-    pub record_level : (v : ℤ) → bits ≡ level_bits v → is_level v ≡ true → twos 12 (field (put_record w i o k bits count n s) (i + 4 + w) 12) ≡ v
+    pub record_level : (v : ℤ) → bits ≡ level_put v → is_level v ≡ true → twos 12 (field (put_record w i o k bits count n s) (i + 4 + w) 12) ≡ v
     record_level v e l =
         ap (twos 12) (kept₄.beside (i + 4 + w) 12 (inl (omega arith))) ∙ put_level s₂ (i + 4 + w) bits v e (rw (kept₂.long, kept₁.long) (omega arith)) l
 

@@ -18,7 +18,7 @@ use Rattle.cuts.specs.Cut.{at}
 use Rattle.cuts.proofs.BelowLaws.{sum_to-same, tab_same}
 use Rattle.recording.specs.Form.{bytes_for, station_bit, record_size, record_bit, n_at, m_at, start_at, first_at, origin_at, number_at, level_at, count_at, event_of, recording_of, needed, padding}
 use Rattle.writer.specs.Write.{Given, first_given, given, recording_given, needed_given, checked_given, Packs}
-use Rattle.writer.specs.Tables.{level_bits}
+use Rattle.writer.specs.Tables.{level_put}
 use Rattle.writer.specs.Pack.{turns, put_pair, put_record, station_turn, record_turn, ended, stationed, pack_into}
 use Rattle.std.specs.Prelude.{Ok}
 use Rattle.writer.proofs.CheckedGiven.{accepts}
@@ -151,7 +151,7 @@ module _ (lead w : ℕ) (g : Given) (room : List ℕ) where
         station_room : i₁ + w + 12 ≤ 8 * length s₁
         station_room = rw ((kept_turns turn_station (station_bit lead w) station_up station_kept (ended lead w g room) p).long, long_ended) (omega (arith, next_station, within_stations, station_needed))
 
-        station_back : (j k : ℕ) → j + k ≤ i₁ + w + 12 → field t j k ≡ field (put_pair w i₁ (at g.counts p) (level_bits (get_or g.starts p (pos 0))) s₁) j k
+        station_back : (j k : ℕ) → j + k ≤ i₁ + w + 12 → field t j k ≡ field (put_pair w i₁ (at g.counts p) (level_put (get_or g.starts p (pos 0))) s₁) j k
         unfolding stationed station_turn
         station_back j k h =
             kept_recorded.beside j k (inl (omega (arith, next_station, within_stations)))
@@ -175,7 +175,7 @@ module _ (lead w : ℕ) (g : Given) (room : List ℕ) where
         i₂ = record_bit lead w n r
 
         abbrev put : List ℕ
-        put = put_record w i₂ (at g.origins r) (at g.numbers r) (level_bits (get_or g.levels r (pos 0))) (λ q. at g.stamps (r * n + q)) n s₂
+        put = put_record w i₂ (at g.origins r) (at g.numbers r) (level_put (get_or g.levels r (pos 0))) (λ q. at g.stamps (r * n + q)) n s₂
 
         r_within : r < T
         r_within = omega (arith, first_part g p (suc e) hp he)

@@ -24,12 +24,12 @@ use Rattle.refusal.specs.Refusal.{Tested}
 use Rattle.recording.specs.Check.{test, fault_of}
 use Rattle.refusal.specs.declared.Reason.{Reason}
 use Rattle.writer.specs.Write.{Given, first_given, long_enough, not_longer, lengths_tests}
-use Rattle.writer.specs.Tables.{level_bits, before_level, level_fault}
+use Rattle.writer.specs.Tables.{level_put, before_level, level_fault}
 
 -- the bits of a level are those that stand for it, and only a level has any
-pub level_bits-of : (v : ℤ) → is_level v ≡ true → level_bits v ≡ bits_of 12 v
-unfolding level_bits field_of
-level_bits-of v h = rw h refl
+pub level_put-of : (v : ℤ) → is_level v ≡ true → level_put v ≡ bits_of 12 v
+unfolding level_put field_of
+level_put-of v h = rw h refl
 
 pub level_some : (v : ℤ) → is_some (field_of v) ≡ is_level v
 unfolding field_of

@@ -8,7 +8,7 @@ use Rattle.recording.specs.Form.{bytes_for, station_bit, record_bit}
 use Rattle.writer.specs.Write.{Given, handed, first_given}
 use Rattle.recording.specs.declared.form.Form.{Form}
 use Rattle.writer.specs.declared.Given.{Given as Handed}
-use Rattle.writer.specs.Tables.{level_bits}
+use Rattle.writer.specs.Tables.{level_put}
 
 -- what a definition over lead, w and what was handed in says of the code's values of these
 abbrev pub over : {A : Type 0} → Form → Handed → (ℕ → ℕ → Given → A) → A
@@ -43,12 +43,12 @@ module _ (lead w : ℕ) (g : Given) where
 
   -- the part of the station at place p
   unfoldable pub station_turn : ℕ → List ℕ → List ℕ
-  station_turn p = put_pair w (station_bit lead w p) (at g.counts p) (level_bits (get_or g.starts p (pos 0)))
+  station_turn p = put_pair w (station_bit lead w p) (at g.counts p) (level_put (get_or g.starts p (pos 0)))
 
   -- record r
   unfoldable pub record_turn : ℕ → List ℕ → List ℕ
   record_turn r =
-      put_record w (record_bit lead w g.n r) (at g.origins r) (at g.numbers r) (level_bits (get_or g.levels r (pos 0))) (λ q. at g.stamps (r * g.n + q)) g.n
+      put_record w (record_bit lead w g.n r) (at g.origins r) (at g.numbers r) (level_put (get_or g.levels r (pos 0))) (λ q. at g.stamps (r * g.n + q)) g.n
 
   -- n in front, and zero bits behind the records; then the stations' parts, then the records
   unfoldable pub ended : List ℕ → List ℕ

@@ -6,14 +6,14 @@ use Rattle.cuts.specs.Below.{sum_to, tab}
 use Rattle.cuts.specs.Cut.{at}
 use Rattle.faults.specs.declared.Tables.{Tables}
 use Rattle.recording.specs.Recording.{messages}
-use Rattle.recording.specs.Check.{fault_of, scan_to, scan_records}
-use Rattle.refusal.specs.Refusal.{Tested, Checked, at_record}
+use Rattle.recording.specs.Check.{fault_of, scan_records}
+use Rattle.refusal.specs.Refusal.{Tested, Checked}
 use Rattle.refusal.specs.declared.Reason.{Reason}
 use Rattle.writer.specs.Write.{Given, first_given, recording_given, writer_tests}
 
 -- a level's 12 bits, 0 for a number that is none
-unfoldable pub level_bits : ℤ → ℕ
-level_bits v = unwrap_or (field_of v) 0
+unfoldable pub level_put : ℤ → ℕ
+level_put v = unwrap_or (field_of v) 0
 
 -- a level out of range comes after a wrong origin and a wrong sender's number, and before a wrong stamp
 unfoldable pub before_level : Reason → Bool
@@ -25,13 +25,10 @@ unfoldable pub level_fault : Tested → ℤ → Tested
 level_fault (Ok u) v = cond (is_level v) (Ok u) (Err Reason.Level)
 level_fault (Err k) v = cond (is_level v || before_level k) (Err k) (Err Reason.Level)
 
--- the refusal of event e + 1 of the station at place p, the first among the records of that station, and the first among all records
+-- the first test that fails of event e + 1 of the station at place p, and the first refusal among all records
 module _ (g : Given) where
-  unfoldable pub scanned_record : ℕ → ℕ → Checked
-  scanned_record p e = at_record p e (fault_of (writer_tests (recording_given g) p e))
-
-  unfoldable pub scanned_station : ℕ → Checked
-  scanned_station p = scan_to (at g.counts p) (scanned_record p)
+  unfoldable pub given_fault : ℕ → ℕ → Tested
+  given_fault p e = fault_of (writer_tests (recording_given g) p e)
 
   unfoldable pub scanned_given : Checked
   scanned_given = scan_records (messages (recording_given g)) (writer_tests (recording_given g))

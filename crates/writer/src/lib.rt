@@ -1,4 +1,5 @@
 // The writer: the checks of what was handed in, and the packed recording of document 01 put into a room.
+// `as` narrows only what is proved to fit; `try_from` would add an error that cannot occur.
 #![tactic(auto)]
 
 ghost use Rattle.std.specs.Prelude.{◌≡◌, ℕ, ◌*◌, ◌≤◌, ◌<◌, length, get_or, OnOk};
@@ -15,14 +16,12 @@ mod records;
 use crate::pack::Packing;
 use crate::records::Tabled;
 use faults::Tables;
-use recording::Form;
+use recording::{CELLS, Form};
 use refusal::{Reason, Refusal};
 use std::array;
 
-// The places of the largest table of stamps: eight for each of 4,088 records.
-const CELLS: usize = 32704;
-
-// What is handed in: n, and the lists, stations in their order and records in file order, n counts to a record.
+// What is handed in: n, and the lists, stations in their order and records in file order, n counts to a record. The lists are the caller's, and stay
+// beside one another because the law hands them in so.
 #[derive(Clone, Copy, Debug, PartialEq, Eq)]
 pub struct Given<'a> {
     pub n: u8,
@@ -97,6 +96,7 @@ impl<'a> Given<'a> {
         requires { (self.now.n ≤ 8) × (length self.now.origins.now ≤ 2040) × (length self.now.origins.now ≡ first_given (handed self.now) self.now.n) }
         ensures { result ≡ scanned_given (handed self.now) }
     {
+        // A room for the largest recording, of which the front is used: fixed memory, no heap.
         let mut rows = [0; CELLS];
         self.lay_stamps(&mut rows);
         let tabled = Tabled {
@@ -137,16 +137,11 @@ fn firsts_of(counts: &[u8]) -> [usize; 9]
     ensures sums { (p : ℕ) → p < 9 → (at result p ≡ sum_to p (at counts.now)) × (at result p ≤ 2040) }
     ensures bytes { (p : ℕ) → at counts.now p < 256 }
 {
-    let mut firsts = [0; 9];
-    let mut before = 0;
-    for (p, first) in firsts.iter_mut().enumerate() {
-        *first = before;
-        before += usize::from(item(counts, p, 0));
-    }
-    firsts
+    faults::firsts_of(&events_of(counts))
 }
 
-// The item at i, `past` past the end of the list.
+// The item at i, `past` past the end of the list: the library's chain, named for the many places here. It stays here: `engine` and `recording` need it for
+// a list or two, where it is a line, and no crate below them and this one is about such lists (`bits` is about bits).
 pub(crate) fn item<T: Copy>(list: &[T], i: usize, past: T) -> T
     ensures { result ≡ get_or list.now i past }
 {

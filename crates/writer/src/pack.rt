@@ -1,14 +1,14 @@
 // What is handed in, put into a room field by field.
 ghost use Rattle.std.specs.Prelude.{◌≡◌, ◌≤◌, ◌<◌, length};
 ghost use Rattle.writer.specs.Write.{handed, first_given, needed_given};
-ghost use Rattle.writer.specs.Tables.{level_bits};
+ghost use Rattle.writer.specs.Tables.{level_put};
 ghost use Rattle.writer.specs.Pack.{over, end_given, turns, put_pair, ended, station_turn, record_turn, pack_into};
 
 use crate::{Given, item};
 use recording::{Form, bytes_for};
 
 // What is handed in, to be packed in a form: it has as many records as its stations have, a 16-bit number of them.
-#[derive(Clone, Copy)]
+#[derive(Clone, Copy, Debug, PartialEq, Eq)]
 pub struct Packing<'a> {
     pub form: Form,
     pub given: Given<'a>,
@@ -82,7 +82,6 @@ impl<'a> Packing<'a> {
         ensures { room.new ≡ over self.now.form self.now.given record_turn r room.old }
     {
         let given = &self.given;
-        let width = self.form.width;
         let bit = self.form.record_bit(given.n, r);
         let place = usize::from(r);
         let n = usize::from(given.n);
@@ -90,17 +89,22 @@ impl<'a> Packing<'a> {
         let number = item(given.numbers, place, 0);
         let level = item(given.levels, place, 0);
         self.put_pair(room, bit + 4, number, level);
-        for q in 0..n {
-            let count = item(given.stamps, place * n + q, 0);
-            put::put(room, bit + 16 + width + width * q, width, count);
+        for q in 0..given.n {
+            let count = item(given.stamps, place * n + usize::from(q), 0);
+            put::put(
+                room,
+                self.form.stamp_bit(given.n, r, q),
+                self.form.width,
+                count,
+            );
         }
     }
 
     // A number and a level's bits, from the given bit on: all of a station's part, the middle of a record. A number that is no level was refused.
-    #[tactic(auto, unfolding(crate::specs::Pack::put_pair, crate::specs::Tables::level_bits))]
+    #[tactic(auto, unfolding(crate::specs::Pack::put_pair, crate::specs::Tables::level_put))]
     fn put_pair(&self, room: &mut [u8], bit: usize, number: u16, level: i16)
         requires { bit ≤ 200000004 }
-        ensures { room.new ≡ put_pair self.now.form.width bit number (level_bits level) room.old }
+        ensures { room.new ≡ put_pair self.now.form.width bit number (level_put level) room.old }
     {
         put::put(room, bit, self.form.width, number);
         let level = levels::field_of(level).unwrap_or(0);

@@ -1,16 +1,17 @@
 // The checks of the records handed in, in file order.
-ghost use Rattle.std.specs.Prelude.{◌≡◌, ◌<◌};
+ghost use Rattle.std.specs.Prelude.{◌≡◌, ◌&&◌, ◌<◌, ltb};
 ghost use Rattle.cuts.specs.Cut.{at};
-ghost use Rattle.recording.specs.Check.{fault_of};
-ghost use Rattle.writer.specs.Write.{handed, recording_given, writer_tests};
-ghost use Rattle.writer.specs.Tables.{Laid, before_level, level_fault, scanned_given, scanned_station, scanned_record};
+ghost use Rattle.recording.specs.Fault.{fault_in};
+ghost use Rattle.writer.specs.Write.{handed};
+ghost use Rattle.writer.specs.Tables.{Laid, before_level, level_fault, given_fault, scanned_given};
 
 use crate::{Given, item};
 use faults::Tables;
+use recording::Records;
 use refusal::{Reason, Refusal};
 
 // What is handed in, of at most eight stations and with as many records as they have, and the tables that the records are checked against.
-#[derive(Clone, Copy)]
+#[derive(Clone, Copy, Debug, PartialEq, Eq)]
 pub struct Tabled<'a, 't> {
     pub given: Given<'a>,
     pub tables: Tables<'t>,
@@ -18,44 +19,24 @@ pub struct Tabled<'a, 't> {
 }
 
 impl<'a, 't> Tabled<'a, 't> {
-    // The first refusal among the records, station by station.
+    // The first refusal among the records.
     pub fn check_records(&self) -> Result<(), Refusal>
         ensures { result ≡ scanned_given (handed self.now.given) }
     {
-        for p in 0..self.given.n {
-            self.check_station(p)?;
-        }
-        Ok(())
+        recording::check_records(self.given.n, &self.tables.counts, self)
     }
 
-    // The first refusal among the records of the station at place p.
-    fn check_station(&self, p: u8) -> Result<(), Refusal>
-        requires { p < self.now.given.n }
-        ensures { result ≡ scanned_station (handed self.now.given) p }
+    // Whether the station at place p has an event e + 1.
+    fn has(&self, p: u8, e: u16) -> bool
+        ensures { result ≡ (ltb p self.now.given.n && ltb e (at self.now.tables.counts p)) }
     {
-        for e in 0..self.tables.counts[usize::from(p)] {
-            self.check_record(p, e)?;
-        }
-        Ok(())
+        p < self.given.n && e < self.tables.counts[usize::from(p)]
     }
 
-    // The refusal of event e + 1 of the station at place p, if any.
-    fn check_record(&self, p: u8, e: u16) -> Result<(), Refusal>
-        requires { (p < self.now.given.n) × (e < at self.now.given.counts.now p) }
-        ensures { result ≡ scanned_record (handed self.now.given) p e }
-    {
-        let (station, event) = (p + 1, e + 1);
-        self.record_fault(p, e).map_err(|reason| Refusal {
-            reason,
-            station,
-            event,
-        })
-    }
-
-    // The first test of that record that fails.
+    // The first test that fails of event e + 1 of the station at place p.
     fn record_fault(&self, p: u8, e: u16) -> Result<(), Reason>
-        requires { (p < self.now.given.n) × (e < at self.now.given.counts.now p) }
-        ensures { result ≡ fault_of (writer_tests (recording_given (handed self.now.given)) p e) }
+        requires { (p < self.now.given.n) × (e < at self.now.tables.counts p) }
+        ensures { result ≡ given_fault (handed self.now.given) p e }
     {
         let (p, e) = (usize::from(p), usize::from(e));
         let r = self.tables.firsts[p] + e;
@@ -63,6 +44,17 @@ impl<'a, 't> Tabled<'a, 't> {
         let number = item(self.given.numbers, r, 0);
         let fault = self.tables.message_fault(origin, usize::from(number), p, e);
         with_level(fault, item(self.given.levels, r, 0))
+    }
+}
+
+impl<'a, 't> Records for Tabled<'a, 't> {
+    ghost wrong = { λ t p e. fault_in t.given.n t.tables.counts (given_fault (handed t.given)) p e };
+
+    fn fault(&self, p: u8, e: u16) -> Result<(), Reason> {
+        if self.has(p, e) {
+            return self.record_fault(p, e);
+        }
+        Ok(())
     }
 }
 

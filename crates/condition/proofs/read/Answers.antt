@@ -3,7 +3,7 @@ use Rattle.std.proofs.Common.{sym, refl}
 use Rattle.std.proofs.lemmas.Result.{err_from_is_err_and}
 use Rattle.cuts.proofs.BelowLaws.{and_false}
 use Rattle.condition.specs.Condition.{condition_ok, condition_of}
-use Rattle.condition.proofs.FieldLaws.{ok_by, err_by, read_of-refused, read_of-good, refused_of-short, refused_of-broken, refused_of-good}
+use Rattle.condition.proofs.FieldLaws.{ok_by, err_by, read_of-refused, read_of-good, refused_of-short, refused_of-broken, refused_of-good, kind_uses}
 use Rattle.condition.proofs.read.Goals as goal
 
 pub returns-then-s-lt38 : goal.returns-then-s-lt38
@@ -29,3 +29,6 @@ returns c =
     let (t, v) = ok_by _ c.in_ok-kind.was c.kind.ensures in
     let (g, w) = ok_by _ c.in_ok-windows.was c.windows.ensures in
     rw (v, w) (sym (read_of-good _ (refused_of-good _ c.if-s-lt38.false (rw (t, g) refl))))
+
+pub windows-requires : goal.windows-requires
+windows-requires c = let (t, v) = ok_by _ c.in_ok-kind.was c.kind.ensures in rw v (kind_uses _ t)

@@ -8,7 +8,7 @@ use Rattle.lookup.proofs.found_at.Goals as goal
 pub returns-then-e-eq0 : goal.returns-then-e-eq0
 returns-then-e-eq0 c =
     let (ef, hn, hp, he) = c.requires in
-    found_of-start _ _ _ _ ef hn _ hp _ _ c.if-e-eq0.true (start_signed _ _ _ _ _ _ _ c.station_bit.ensures.0 c.peek.ensures c.signed.ensures)
+    found_of-start _ _ _ _ ef hn _ hp _ _ c.if-e-eq0.true (start_signed _ _ _ _ _ _ _ c.start_bit.ensures.0 c.peek.ensures c.signed.ensures)
 
 pub first-requires : goal.first-requires
 first-requires c =
@@ -16,8 +16,8 @@ first-requires c =
     let F = c.args.form in
     omega (arith, records_before _ _ _ _ ef hn _ hp, first_at-le F.lead F.width c.args.s.now c.args.p (omega (arith, F.bounds)), F.bounds)
 
-pub overflow_add-first : goal.overflow_add-first
-overflow_add-first c =
+pub overflow_add-r : goal.overflow_add-r
+overflow_add-r c =
     let (ef, hn, hp, he) = c.requires in
     omega (arith, record_place _ _ _ _ ef hn _ hp (omega (arith, c.args.form.bounds)) _ c.if-e-eq0.false he)
 
@@ -27,5 +27,5 @@ overflow_cast-result c = omega (arith, peeked_read _ _ _ _ 4 _ c.peek-2.ensures 
 pub returns : goal.returns
 returns c =
     let (ef, hn, hp, he) = c.requires in
-    found_of-event _ _ _ _ ef hn _ hp (omega (arith, c.args.form.bounds)) _ c.if-e-eq0.false he _ _ c.first.ensures c.record_bit-b.ensures.0 _ _ _ _ _
+    found_of-event _ _ _ _ ef hn _ hp (omega (arith, c.args.form.bounds)) _ c.if-e-eq0.false he _ _ c.first.ensures c.record_bit-b.ensures.0 _ c.level_bit.ensures.0 _ _ _ _ _
     c.peek-2.ensures c.peek-3.ensures c.peek-4.ensures c.signed-2.ensures c.stamp.ensures

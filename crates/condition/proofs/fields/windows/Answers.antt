@@ -1,8 +1,6 @@
 -- One window more that is in order; or one that is not, and so not all are.
 use Rattle.std.proofs.Common.{refl}
 use Rattle.std.proofs.lemmas.Result.{err_from_is_err_and}
-use Rattle.bits.specs.Bits.{peeked}
-use Rattle.condition.specs.Condition.{kind_at}
 use Rattle.cuts.specs.Below.{every, tab}
 use Rattle.cuts.proofs.BelowLaws.{every_more, every_false}
 use Rattle.condition.proofs.FieldLaws.{ok_by, err_by, err_if, filled_more}
@@ -11,10 +9,6 @@ use Rattle.condition.proofs.fields.windows.Goals as goal
 pub loop-p-init : goal.loop-p-init
 unfolding every tab
 loop-p-init c = (refl, refl)
-
-pub window-requires : goal.window-requires
-unfolding kind_at peeked
-window-requires c = (c.loop-p-test.true, rw c.peek-sum.ensures refl)
 
 pub returns-in_err-place : goal.returns-in_err-place
 returns-in_err-place c =

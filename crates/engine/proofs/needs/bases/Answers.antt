@@ -15,4 +15,4 @@ overflow_add-rows-in-loop-p c =
 pub loop-p-preserved : goal.loop-p-preserved
 loop-p-preserved c =
     let L = c.loop-p in
-    (rw L.invariant.0 (sym (rows_to-more _ _)), rw (L.invariant.1, L.invariant.0) (tab_more L.p _ _ (omega arith)), L.invariant.2)
+    (rw (L.invariant.0, c.from.ensures) (sym (rows_to-more _ _)), rw (L.invariant.1, L.invariant.0) (tab_more L.p _ _ (omega arith)), L.invariant.2)

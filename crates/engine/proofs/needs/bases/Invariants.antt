@@ -9,4 +9,4 @@ use Rattle.engine.specs.Prepare.{rows_to}
 use Rattle.engine.proofs.needs.bases.Given as goal
 
 abbrev pub invariant-loop-p : goal.invariant-loop-p
-invariant-loop-p l = (l.rows ≡ rows_to l.counts l.p) × (l.b ≡ tab l.p (rows_to l.counts) ++ drop l.p l.initial.b) × ((q : ℕ) → at l.counts q ≤ 511)
+invariant-loop-p l = (l.rows ≡ rows_to l.full.counts l.p) × (l.bases ≡ tab l.p (rows_to l.full.counts) ++ drop l.p l.initial.bases) × ((q : ℕ) → at l.full.counts q ≤ 511)

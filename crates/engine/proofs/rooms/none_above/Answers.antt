@@ -4,7 +4,7 @@ use Rattle.engine.proofs.RoomLaws.{unasked_none, unasked_more, asked_above, unas
 use Rattle.engine.proofs.rooms.none_above.Goals as goal
 
 pub loop-p-init : goal.loop-p-init
-loop-p-init c = (le_refl _, unasked_none _ _)
+loop-p-init c = rw c.from-p.ensures (le_refl _, unasked_none _ _)
 
 pub returns-then-c-p : goal.returns-then-c-p
 returns-then-c-p c = asked_above _ _ _ c.loop-p.invariant.0 c.loop-p-test.true c.if-c-p.true

@@ -9,5 +9,5 @@ use Rattle.engine.proofs.tables.lay.Given as goal
 
 abbrev pub invariant-loop-p : goal.invariant-loop-p
 invariant-loop-p l =
-    (length l.needed ≡ 32768) × (length l.added ≡ 4096) × (l.needed ≡ needs_to l.counts l.stamps l.p ++ drop (8 * rows_to l.counts l.p) l.initial.needed)
-    × (l.added ≡ weights_to l.counts l.c l.starts l.levels l.p ++ drop (1 * rows_to l.counts l.p) l.initial.added)
+    (length l.needed ≡ 32768) × (length l.added ≡ 4096) × (l.needed ≡ needs_to l.full.counts l.accepted.stamps.now l.p ++ drop (8 * rows_to l.full.counts l.p) l.initial.needed)
+    × (l.added ≡ weights_to l.full.counts l.c l.starts l.accepted.levels.now l.p ++ drop (1 * rows_to l.full.counts l.p) l.initial.added)

@@ -10,22 +10,18 @@ use Rattle.engine.proofs.verdict.verdicts.Goals as goal
 pub returns-in_err-check : goal.returns-in_err-check
 returns-in_err-check c =
     let p = err_from_is_err_and c.from_residual.result c.from_residual.ensures.1 in
-    rw (p.1, p.2) (refused_room _ _ _ _ _ _ c.requires _ c.full_cut-full.ensures _ c.check.ensures _ c.in_err-check.was)
+    rw (p.1, p.2) (refused_room _ _ _ _ _ _ c.args.accepted.laid _ c.full_cut-full.ensures _ c.check.ensures _ c.in_err-check.was)
 
-pub bases-bases-requires : goal.bases-bases-requires
-bases-bases-requires c = short_full _ _ c.requires.accepts c.full_cut-full.ensures
-
-pub lay-requires : goal.lay-requires
-lay-requires c =
-    (short_full _ _ c.requires.accepts c.full_cut-full.ensures, c.bases-bases.ensures, refl, refl)
+pub lay-bases-requires : goal.lay-bases-requires
+lay-bases-requires c = (short_full _ _ c.args.accepted.laid.accepts c.full_cut-full.ensures, refl, refl)
 
 pub unwrap-requires : goal.unwrap-requires
 unwrap-requires c =
-    let z = settled _ _ c.args.marks.now c.args.path.now _ _ c.requires _ c.full_cut-full.ensures _ c.check.ensures c.in_ok-check.was in
-    there _ _ _ _ _ _ _ z _ _ _ refl refl c.starts-starts.ensures c.bases-bases.ensures c.lay.ensures.0 c.lay.ensures.1 c.sum_limits-limits.ensures _ _ _ c.settle.ensures
+    let z = settled _ _ c.args.marks.now c.args.path.now _ _ c.args.accepted.laid _ c.full_cut-full.ensures _ c.check.ensures c.in_ok-check.was in
+    there _ _ _ _ _ _ _ z _ _ _ refl refl refl c.lay-bases.ensures.bases c.lay-bases.ensures.needs c.lay-bases.ensures.weights c.sum_limits-limits.ensures _ _ _ c.settle.ensures
 
 pub returns : goal.returns
 returns c =
-    let z = settled _ _ c.args.marks.now c.args.path.now _ _ c.requires _ c.full_cut-full.ensures _ c.check.ensures c.in_ok-check.was in
-    answered _ _ _ _ _ _ c.requires _ c.full_cut-full.ensures _ c.check.ensures _ _ _ c.in_ok-check.was
-    (computed _ _ _ _ _ _ _ z _ _ _ refl refl c.starts-starts.ensures c.bases-bases.ensures c.lay.ensures.0 c.lay.ensures.1 c.sum_limits-limits.ensures _ _ _ (rw c.unwrap.ensures at c.settle.ensures))
+    let z = settled _ _ c.args.marks.now c.args.path.now _ _ c.args.accepted.laid _ c.full_cut-full.ensures _ c.check.ensures c.in_ok-check.was in
+    answered _ _ _ _ _ _ c.args.accepted.laid _ c.full_cut-full.ensures _ c.check.ensures _ _ _ c.in_ok-check.was
+    (computed _ _ _ _ _ _ _ z _ _ _ refl refl refl c.lay-bases.ensures.bases c.lay-bases.ensures.needs c.lay-bases.ensures.weights c.sum_limits-limits.ensures _ _ _ (rw c.unwrap.ensures at c.settle.ensures))

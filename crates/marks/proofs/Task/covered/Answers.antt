@@ -1,16 +1,16 @@
-use mathlib.Core.Path.{refl, sym, ◌∙◌}
-use native.Mathlib.Omega.{arith}
-use Rattle.cuts.specs.Below.{every}
-use Rattle.cuts.proofs.BelowLaws.{every_false, every_more}
+use Rattle.std.proofs.Common.{◌∙◌, arith, rules, tests}
+use Rattle.std.proofs.lemmas.Iterator.{YieldsList-from_range}
+use Rattle.std.proofs.lemmas.Iterator.Search.{all_from_yields_List}
+use lib.ListN.{length}
+use Prim.Native.Nat.{◌+◌}
+use Rattle.cuts.specs.Cut.{at}
+use Rattle.marks.specs.Flat.{row_there}
+use Rattle.marks.proofs.SearchLaws.{all_every}
 use Rattle.marks.proofs.Task.covered.Goals as goal
 
-pub loop-p-init : goal.loop-p-init
-unfolding every
-loop-p-init c = refl
-
-pub returns-then-not-has_row : goal.returns-then-not-has_row
-returns-then-not-has_row c =
-    sym (every_false _ _ c.loop-p.p (omega arith) (sym c.has_row.ensures ∙ c.if-not-has_row.true))
-
-pub loop-p-preserved : goal.loop-p-preserved
-loop-p-preserved c = every_more _ _ c.loop-p.invariant (sym c.has_row.ensures ∙ c.if-not-has_row.false)
+pub returns : goal.returns
+returns c =
+    let task = c.args.self.now in
+    all_from_yields_List (λ p. row_there (length task.needs.now) (length task.weights.now) (at task.bases p + at task.full.counts p)) _ _ c.all.result c.all.ensures.ran
+    (YieldsList-from_range 0 c.from.result task.full.n (cc) (omega (arith, c.from.ensures))) (λ p b q k. search (rules, tests))
+    ∙ all_every _ _

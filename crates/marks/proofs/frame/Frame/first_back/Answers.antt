@@ -1,30 +1,16 @@
-use mathlib.Core.Path.{◌≡◌, sym, ◌∙◌}
-use Prim.Native.Nat.{◌<◌}
-use native.Mathlib.Omega.{arith}
-use borrow.Author.Tests.{ltb-true}
-use borrow.Author.Count.{below_more}
-use Rattle.cuts.specs.Cut.{at}
+use Rattle.std.proofs.Common.{arith, rules, tests, ltb-true}
+use Rattle.std.proofs.lemmas.Iterator.{YieldsList-from_range}
+use Rattle.std.proofs.lemmas.Iterator.Search.{find_from_yields_List}
 use Rattle.cuts.proofs.BelowLaws.{and_true}
 use Rattle.marks.specs.Rows.{leads_back}
-use Rattle.marks.proofs.SearchLaws.{place_none, place_some}
+use Rattle.marks.proofs.SearchLaws.{find_place, place_found}
 use Rattle.marks.proofs.frame.Frame.first_back.Goals as goal
 
-pub returns-then-leads_back : goal.returns-then-leads_back
-unfolding leads_back
-returns-then-leads_back c =
-    let leads = sym c.leads_back.ensures ∙ c.if-leads_back.true in
-    let here : c.loop-p.p < c.args.self.now.task.full.n = omega arith in
-    let some : 0 < at c.args.counts.now c.loop-p.p = ltb-true _ _ (and_true _ _ leads).0 in (
-      place_some _ _ _ here c.loop-p.invariant leads,
-      (here, some, (c.requires.0 c.loop-p.p here some).1),
-    )
-
-pub loop-p-preserved : goal.loop-p-preserved
-unfolding leads_back
-loop-p-preserved c = below_more _ _ c.loop-p.invariant (sym c.leads_back.ensures ∙ c.if-leads_back.false)
-
 pub returns : goal.returns
+unfolding leads_back
 returns c =
-    let loop = c.loop-p in
-    let e : loop.p ≡ c.args.self.now.task.full.n = omega arith in
-    (place_none _ _ (rw e at loop.invariant), tt)
+    let frame = c.args.self.now in
+    let leads = leads_back c.args.marks.now c.args.counts.now frame.strides c.args.r in
+    let found = find_place leads _ _ (find_from_yields_List leads _ _ c.find.result c.find.ensures.ran
+    (YieldsList-from_range 0 c.stations.result frame.task.full.n (cc) (omega (arith, c.stations.ensures))) (λ p b q k. search (rules, tests))) in
+    (found, place_found leads _ _ (λ p here passes. let some = ltb-true _ _ (and_true _ _ passes).0 in (here, some, (c.requires.0 p here some).1)) _ found)

@@ -1,18 +1,20 @@
-use mathlib.Core.Path.{sym, ◌∙◌}
-use borrow.Author.Tests.{le-leb, lt-leb}
+use mathlib.Core.Path.{◌≡◌, refl, ◌∙◌}
+use native.Mathlib.Omega.{arith}
+use Rattle.cuts.specs.Below.{every}
 use Rattle.marks.specs.Flat.{row_met}
-use Rattle.marks.proofs.SearchLaws.{every_last, every_end, every_fails}
+use Rattle.marks.proofs.SearchLaws.{every_next, every_masked}
 use Rattle.marks.proofs.frame.Frame.row_met.Goals as goal
 
-pub returns-then-counts-q : goal.returns-then-counts-q
-unfolding row_met
-returns-then-counts-q c =
-    sym (c.loop-q.invariant ∙ every_fails _ _ c.loop-q-test.true (lt-leb _ _ c.if-counts-q.true))
+pub loop-q-init : goal.loop-q-init
+unfolding every
+loop-q-init c = refl
 
 pub loop-q-preserved : goal.loop-q-preserved
-unfolding row_met
-loop-q-preserved c = c.loop-q.invariant ∙ every_last _ _ c.loop-q-test.true (le-leb _ _ c.if-counts-q.false)
+loop-q-preserved c = rw c.from-place.ensures (every_next _ _ _ _ c.loop-q.invariant refl)
 
 pub returns : goal.returns
 unfolding row_met
-returns c = sym (c.loop-q.invariant ∙ every_end _ _ c.loop-q-test.false)
+returns c =
+    let frame = c.args.self.now in
+    let all : c.loop-q.q ≡ 8 = omega arith in
+    rw all at c.loop-q.invariant ∙ every_masked frame.task.full.n 8 _ frame.ready.rows.most

@@ -9,4 +9,4 @@ loop-r-init c = tab_none _ _
 pub loop-r-preserved : goal.loop-r-preserved
 loop-r-preserved c =
     let L = c.loop-r in
-    rw (L.invariant, level_read _ _ _ _ _ _ _ _ c.record_bit.ensures.0 c.peek.ensures c.excess.ensures, c.from.ensures) (tab_more L.r _ _ (omega arith))
+    rw (L.invariant, level_read _ _ _ _ _ _ _ _ c.level_bit-at.ensures.0 c.peek.ensures c.excess.ensures) (tab_more L.r _ _ (omega arith))

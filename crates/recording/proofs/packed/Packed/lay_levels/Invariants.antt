@@ -8,4 +8,4 @@ use Rattle.recording.specs.Packed.{over}
 use Rattle.recording.proofs.packed.Packed.lay_levels.Given as goal
 
 abbrev pub invariant-loop-r : goal.invariant-loop-r
-invariant-loop-r l = l.out ≡ tab l.r (over l.self level_cell l.n) ++ drop l.r l.initial.out
+invariant-loop-r l = l.level-items ≡ tab l.r (over l.self level_cell l.n) ++ drop l.r l.initial.level-items

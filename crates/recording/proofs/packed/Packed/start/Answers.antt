@@ -1,6 +1,5 @@
 -- Below n it is the excess number of the field of 12 bits after the station's count, and beyond n 0.
 use mathlib.Core.Path.{sym, ap, ◌∙◌}
-use Prim.Native.Nat.{ℕ, ◌+◌}
 use native.Mathlib.Omega.{arith}
 use Rattle.levels.specs.Level.{excess_of}
 use Rattle.recording.proofs.PlaceLaws.{peeked_read}
@@ -9,8 +8,7 @@ use Rattle.recording.proofs.packed.Packed.start.Goals as goal
 
 pub returns-then-p-n : goal.returns-then-p-n
 returns-then-p-n c =
-    let A = c.args in
-    let f = peeked_read _ _ _ 12 12 _ c.peek.ensures (ap (λ (i : ℕ). i + A.self.form.width) c.station_bit.ensures.0) (omega arith) (omega arith) in
+    let f = peeked_read _ _ _ 12 12 _ c.peek.ensures c.start_bit.ensures.0 (omega arith) (omega arith) in
     c.excess.ensures ∙ ap excess_of f.0 ∙ sym (start_cell-in _ _ _ _ _ c.if-p-n.true)
 
 pub returns : goal.returns

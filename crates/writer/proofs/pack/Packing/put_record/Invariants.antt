@@ -6,4 +6,4 @@ use Rattle.writer.specs.Pack.{turns, put_count}
 use Rattle.writer.proofs.pack.Packing.put_record.Given as goal
 
 abbrev pub invariant-loop-q : goal.invariant-loop-q
-invariant-loop-q l = l.room ≡ turns (put_count l.width (l.bit + 16 + l.width) (λ p. at l.self.given.stamps.now (l.place * l.n + p))) l.initial.room l.q
+invariant-loop-q l = l.room ≡ turns (put_count l.self.form.width (l.bit + 16 + l.self.form.width) (λ p. at l.self.given.stamps.now (l.place * l.n + p))) l.initial.room l.q

@@ -1,23 +1,7 @@
--- The scan ends at the first refusal, or behind the last station.
-use mathlib.Core.Path.{◌≡◌, sym, ◌∙◌}
-use native.Mathlib.Omega.{arith}
-use native.Mathlib.Nat.{le_antisymm}
-use Rattle.std.proofs.Common.{rules}
-use Rattle.std.specs.Prelude.{Err}
-use Rattle.recording.proofs.CheckLaws.{scan_none, scan_more, scan_found}
+-- Where a record stands, nothing but its own fault is found, so the scan is that of all records.
+use mathlib.Core.Path.{◌∙◌}
 use Rattle.writer.proofs.GivenRight.{records_scan}
 use Rattle.writer.proofs.records.Tabled.check_records.Goals as goal
 
-pub loop-p-init : goal.loop-p-init
-loop-p-init c = scan_none _
-
-pub loop-p-preserved : goal.loop-p-preserved
-loop-p-preserved c = scan_more _ _ c.loop-p.invariant ∙ sym (c.in_ok-check_station.ensures)
-
-pub returns-in_err-check_station : goal.returns-in_err-check_station
-returns-in_err-check_station c =
-    let r : c.from_residual.result ≡ Err c.in_err-check_station.field-0.0 = search rules in
-    r ∙ sym (scan_found _ _ _ _ (omega arith) c.loop-p.invariant (sym (c.in_err-check_station.ensures))) ∙ records_scan c.args.self.now.laid
-
 pub returns : goal.returns
-returns c = sym (rw (le_antisymm c.loop-p.auto.p-end c.loop-p-test.false) at c.loop-p.invariant) ∙ records_scan c.args.self.now.laid
+returns c = c.check_records.ensures ∙ records_scan c.args.self.now.laid
