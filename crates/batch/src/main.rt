@@ -44,6 +44,7 @@ fn answer_next<R: Read, W: Write>(input: &mut R, output: &mut W) -> io::Result<b
 fn answer_job<R: Read, W: Write>(most: usize, input: &mut R, output: &mut W) -> io::Result<()>
     requires { most ≤ ANNOUNCED }
 {
+    // Rooms of fixed length, of which the front is used: fixed memory, no heap.
     let mut job = [0u8; ANNOUNCED];
     let n = read_job(most, input, &mut job)?;
     let mut room = [0u8; LONGEST];

@@ -8,6 +8,7 @@ use std::io;
 const MOST: usize = 4096;
 
 fn main(rt: HostRuntime) -> io::Result<()> {
+    // A room of fixed length, of which the front is used: fixed memory, no heap.
     let mut buf = [0u8; MOST];
     let n = reading::read_full(&mut rt.reader(), &mut buf)?;
     println!(rt; "cut short")?;
@@ -34,7 +35,7 @@ impl Counts {
         }
     }
 
-    // A line for each number that occurred: it, and how often.
+    // A line for each number that occurred: it, and how often. No Display: a program's lines go out by `println!`.
     fn print<P: Print>(self, rt: &P) -> io::Result<()> {
         for (number, count) in self.by_number.iter().enumerate() {
             if *count != 0 {

@@ -22,6 +22,7 @@ pub struct Station {
 }
 
 // What all stations' events need, and what the stations add after each of them, into the fronts of the rooms; the rows before those of each station.
+// What it is handed travels together nowhere else.
 // Not inlined: inlined, it takes registers from the loops of `marks`, and a box of two long stations took 16 in 100 longer.
 #[inline(never)]
 pub fn lay(

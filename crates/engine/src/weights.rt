@@ -6,7 +6,7 @@ ghost use Rattle.engine.specs.Prepare.{station_weight};
 use crate::tables::{Station, lay_each};
 use condition::Condition;
 
-// What a station, with its start level, adds after each of its events, in its rows.
+// What a station, with its start level, adds after each of its events, in its rows. What it is handed travels together nowhere else.
 pub fn lay_station_weights(
     c: Condition,
     start: u16,
@@ -22,7 +22,7 @@ pub fn lay_station_weights(
     });
 }
 
-// What it adds after its event e.
+// What it adds after its event e. What it is handed travels together nowhere else.
 fn station_weight(c: Condition, start: u16, levels: &[u16], station: Station, e: usize) -> u16
     requires { e ≤ 511 }
     ensures { result ≡ station_weight c start levels.now station.place station.first e }

@@ -23,6 +23,7 @@ fn main(rt: HostRuntime) -> io::Result<()> {
 
 // Reads an example, prints its line and the reply to its job; whether there was one.
 fn run_next<R: Read, W: Write>(input: &mut R, output: &mut W) -> io::Result<bool> {
+    // Rooms of fixed length, of which the front is used: fixed memory, no heap.
     let mut part = [0u8; ANNOUNCED];
     let n = read_part(input, &mut part)?;
     if n == 0 {

@@ -71,7 +71,7 @@ pub fn firsts_of(counts: &[u16; 8]) -> [usize; 9]
 
 impl<'a> Tables<'a> {
     // What is wrong with event e + 1 of the station at place p, which has the origin o and the sender's number k: its origin, its number or its stamp,
-    // whichever comes first. Its stamp where p is no station's place, or the rows do not have the stamps.
+    // whichever comes first. Its stamp where p is no station's place, or the rows do not have the stamps. What it is handed travels together nowhere else.
     #[tactic(auto, unfolding(crate::specs::Fault::table_fault, crate::specs::Fault::source_fault, crate::specs::Fault::sender_fault, crate::specs::Fault::sender_at, crate::specs::Fault::local_fault, crate::specs::Fault::receipt_fault, crate::specs::Fault::source_of))]
     pub fn message_fault(&self, o: u8, k: usize, p: usize, e: usize) -> Result<(), Reason>
         ensures { result ≡ table_fault self.now.n self.now.counts self.now.firsts self.now.rows.now o k p e }
@@ -112,7 +112,7 @@ impl<'a> Tables<'a> {
         Ok(())
     }
 
-    // Whether the stamp of event e + 1 follows from the one before it and that of event k of the station whose records begin at `sender`.
+    // Whether the stamp of event e + 1 follows from the one before it and that of event k of the station whose records begin at `sender`. What it is handed travels together nowhere else.
     #[tactic(auto, unfolding(crate::specs::Fault::stamp_fault, crate::specs::Fault::has))]
     fn stamp_fault(
         &self,

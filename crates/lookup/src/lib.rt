@@ -44,7 +44,8 @@ fn is_recorded(full: Cut, station: u8, event: u16) -> bool
     1 <= station && station <= full.n && event <= full.counts[usize::from(station) - 1]
 }
 
-// Event e of the station at place p.
+// Event e of the station at place p. What it is handed travels together nowhere else. That there are at most eight stations is a bound of one argument, here and in
+// what is asked below.
 fn found_at(s: &[u8], form: Form, full: Cut, p: u8, e: u16) -> Record
     requires { (full ≡ full_of form.lead form.width s.now) × (full.n ≤ 8) × (p < full.n) × (e ≤ m_at form.lead form.width s.now p) }
     ensures { result ≡ found_of (recording_of form.lead form.width s.now) p e }

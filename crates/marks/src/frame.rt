@@ -87,7 +87,8 @@ impl<'a> Frame<'a> {
     }
 
     // The mark of the cut with these counts, the first of which is x, and rank r, from those of the ranks below; the other stations are met, and add sum.
-    // Marks are bytes of a lent room, which C reads too: numbers, and no enum.
+    // Marks are bytes of a lent room, which C reads too: numbers, and no enum. What it is handed travels together nowhere else. That r is
+    // within the marks is a bound of that argument alone, here and in what it asks.
     fn mark(&self, sum: usize, marks: &[u8], counts: &[u16; 8], x: usize, r: usize) -> u8
         requires { (sum ≤ 524280) × (x ≤ at self.now.task.full.counts 0) × StepsBack self.now.task.full.n counts.now self.now.strides r × (r ≤ length marks.now) }
         ensures { result ≡ cut_mark self.now.task sum marks.now counts.now x r }
@@ -156,6 +157,7 @@ impl<'a> Frame<'a> {
         }
         let mut counts = self.task.full.counts;
         let mut k = cut::events(self.task.full);
+        // It counts nothing: each turn goes on from the cut that the last one led to, and the way ends where no step leads back.
         while let Some(p) = self.first_back(marks, &counts, r) {
             k -= 1;
             path[k] = (p + 1) as u8;

@@ -13,6 +13,7 @@ use refusal::Refusal;
 pub fn answer(job: &[u8], room: &mut [u8]) -> Option<usize>
     ensures { Printed (text_of job.now) room.old result room.new }
 {
+    // Rooms of fixed length, of which the front is used: fixed memory, no heap.
     let mut marks = [0u8; 65536];
     let mut path = [0u8; recording::RECORDS];
     let reply = engine::judge(job, &mut marks, &mut path);

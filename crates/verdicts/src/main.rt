@@ -7,6 +7,7 @@ use std::io::{self, Write};
 const MOST: usize = 22500;
 
 fn main(rt: HostRuntime) -> io::Result<()> {
+    // Rooms of fixed length, of which the front is used: fixed memory, no heap.
     let mut job = [0u8; MOST];
     let n = reading::read_full(&mut rt.reader(), &mut job)?;
     let mut room = [0u8; fits::LONGEST];

@@ -111,7 +111,7 @@ impl<'a> Given<'a> {
         tabled.check_records()
     }
 
-    // The stamps handed in, in rows of eight places, into the front of `rows`.
+    // The stamps handed in, in rows of eight places, into the front of `rows`. The reader's of this name promises otherwise, and says why they are two.
     fn lay_stamps(&self, rows: &mut [u16; CELLS])
         requires { (self.now.n ≤ 8) × (length self.now.origins.now ≤ 2040) }
         ensures { StampsLaid (handed self.now) rows.new }

@@ -101,6 +101,7 @@ impl<'a> Packing<'a> {
     }
 
     // A number and a level's bits, from the given bit on: all of a station's part, the middle of a record. A number that is no level was refused.
+    // What it is handed travels together nowhere else.
     #[tactic(auto, unfolding(crate::specs::Pack::put_pair, crate::specs::Tables::level_put))]
     fn put_pair(&self, room: &mut [u8], bit: usize, number: u16, level: i16)
         requires { bit ≤ 200000004 }

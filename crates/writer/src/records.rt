@@ -26,7 +26,7 @@ impl<'a, 't> Tabled<'a, 't> {
         recording::check_records(self.given.n, &self.tables.counts, self)
     }
 
-    // Whether the station at place p has an event e + 1.
+    // Whether the station at place p has an event e + 1. The reader's has the same words of its own tables, and says why they are two.
     fn has(&self, p: u8, e: u16) -> bool
         ensures { result ≡ (ltb p self.now.given.n && ltb e (at self.now.tables.counts p)) }
     {
