@@ -8,6 +8,7 @@ use lib.ListN.{length, take, drop, set, length-append, length-drop, length-set}
 use lib.Seq.{length-take-le, take-suc-set}
 use borrow.Author.Tests.{le-leb}
 use Rattle.std.specs.Prelude.{Option, Some, IsSome}
+use Rattle.cuts.proofs.ReplyLaws.{replies_equal}
 use Rattle.text.specs.Text.{text_in, Printed}
 use Rattle.text.proofs.TextRight.{printed_length, printed_front}
 
@@ -43,3 +44,8 @@ module _ (text room after : List ℕ) (fits : length text < length room) (r : �
   byte_behind b =
       let whole = taken_whole text room after (omega arith) r put in
       (rw (add-one r, sym whole.0.1) (take-suc-set after r b place_behind), counts_within (r + 1) (set after r b) (omega (arith, place_behind, length-set after r b)))
+
+-- what `printed` permits is one length and one room
+pub whole_unique : (text before : List ℕ) (r r' : ℕ) (after after' : List ℕ) → r ≡ length text → r' ≡ length text → after ≡ text_in text before → after' ≡ text_in text before
+    → (r ≡ r') × (after ≡ after')
+whole_unique text before r r' after after' e e' f f' = (replies_equal e e', replies_equal f f')
