@@ -105,8 +105,9 @@ impl<'a, T: Integer> Line<'a, T> {
             MatchOption result (all < bytes) (λ left. left + bytes ≡ all) }
     {
         let mut left = all.checked_sub(self.word.len() + 1)?;
+        let mut digits = Buffer::new();
         for x in self.numbers {
-            left = left.checked_sub(1 + Buffer::new().format(*x).len())?;
+            left = left.checked_sub(1 + digits.format(*x).len())?;
         }
         Some(left)
     }
@@ -117,9 +118,10 @@ impl<'a, T: Integer> Line<'a, T> {
         ensures { Written (line_of T.text self.entry.word.now self.entry.numbers.now) room.old at result room.new }
     {
         let mut next = put_bytes(room, at, self.word);
+        let mut digits = Buffer::new();
         for x in self.numbers {
             next = put_bytes(room, next, b" ");
-            next = put_bytes(room, next, Buffer::new().format(*x).as_bytes());
+            next = put_bytes(room, next, digits.format(*x).as_bytes());
         }
         put_bytes(room, next, b"\n")
     }
