@@ -6,8 +6,8 @@ use Rattle.text.proofs.refused.Goals as goal
 
 pub returns-in_err-left_of : goal.returns-in_err-left_of
 returns-in_err-left_of c =
-    rw (c.from_residual.ensures, refused_line c.args.event c.from.ensures c.from-2.ensures (omega arith) (omega arith) (omega arith)) (printed_none _ _ c.in_err-left_of.ensures)
+    rw (c.from_residual.ensures, refused_line {number = c.args.number} {station = c.args.station} c.args.event c.from.ensures c.from-2.ensures (omega arith) (omega arith) (omega arith)) (printed_none _ _ c.in_err-left_of.ensures)
 
 pub returns : goal.returns
 returns c =
-    rw (refused_line c.args.event c.from.ensures c.from-2.ensures (omega arith) (omega arith) (omega arith)) (printed_whole (omega (arith, c.in_ok-left_of.ensures)) c.put.ensures)
+    rw (refused_line {number = c.args.number} {station = c.args.station} c.args.event c.from.ensures c.from-2.ensures (omega arith) (omega arith) (omega arith)) (printed_whole (omega (arith, c.in_ok-left_of.ensures)) c.put.ensures)
