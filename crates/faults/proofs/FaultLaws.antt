@@ -47,7 +47,7 @@ pub source_of-is : (x : Result Source Reason) (o : ℕ) → x ≡ source_of o �
 source_of-is x o h = rw h (source_of-kind o)
 
 -- 1 at the own place, as a test
-own_test : (p q : ℕ) → own p q ≡ bool_byte (eqb p q)
+pub own_test : (p q : ℕ) → own p q ≡ bool_byte (eqb p q)
 own_test p q = go (eqb p q) refl
   where
     go : (b : Bool) → eqb p q ≡ b → own p q ≡ bool_byte b

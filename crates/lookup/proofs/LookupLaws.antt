@@ -43,7 +43,7 @@ use Rattle.lookup.specs.Lookup.{is_recorded, place_of, found_of, looked_up, look
 use Rattle.lookup.specs.declared.Record.{Record}
 
 -- a level's 12 bits as a signed number, which 16 bits hold
-level_signed : (f : ℕ) (z : ℤ) → f < 4096 → z ≡ twos 12 (f % 4096) → to_z w16 (of_z w16 z) ≡ twos 12 f
+pub level_signed : (f : ℕ) (z : ℤ) → f < 4096 → z ≡ twos 12 (f % 4096) → to_z w16 (of_z w16 z) ≡ twos 12 f
 level_signed f z h e =
     let m : f % 4096 ≡ f = omega arith in
     let g : z ≡ twos 12 f = rw m at e in
@@ -58,23 +58,23 @@ start_signed lead w s p b f z eb ef g =
     level_signed f z h g ∙ ap (twos 12) e
 
 -- the full cut's n and counts
-full_stations : (lead w : ℕ) (s : List ℕ) (c : Cut) → c ≡ full_of lead w s → c.n ≡ n_at lead s
+pub full_stations : (lead w : ℕ) (s : List ℕ) (c : Cut) → c ≡ full_of lead w s → c.n ≡ n_at lead s
 unfolding full_of
 full_stations lead w s c e = ap (λ (x : Cut). x.n) e
 
-full_counts : (lead w : ℕ) (s : List ℕ) (c : Cut) → c ≡ full_of lead w s → c.counts ≡ tab 8 (events_at lead w s (n_at lead s))
+pub full_counts : (lead w : ℕ) (s : List ℕ) (c : Cut) → c ≡ full_of lead w s → c.counts ≡ tab 8 (events_at lead w s (n_at lead s))
 unfolding full_of
 full_counts lead w s c e = ap (λ (x : Cut). x.counts) e
 
 -- in an array of eight
-count_full : (lead w : ℕ) (s m : List ℕ) → m ≡ tab 8 (events_at lead w s (n_at lead s)) → (p : ℕ) → p < n_at lead s → p < 8 → at m p ≡ m_at lead w s p
+pub count_full : (lead w : ℕ) (s m : List ℕ) → m ≡ tab 8 (events_at lead w s (n_at lead s)) → (p : ℕ) → p < n_at lead s → p < 8 → at m p ≡ m_at lead w s p
 count_full lead w s m em p h k = ap (λ (l : List ℕ). at l p) em ∙ get_d-tab 8 _ 0 p k ∙ events_at-in lead w s (n_at lead s) p h
 
 pub counted_in : (w : ℕ) (s : List ℕ) (n b q : ℕ) → q < n → counted w s n b q ≡ field s (b + w * q) w
 unfolding counted
 counted_in w s n b q h = simp (lt-ltb q n h)
 
-counted_beyond : (w : ℕ) (s : List ℕ) (n b q : ℕ) → n ≤ q → counted w s n b q ≡ 0
+pub counted_beyond : (w : ℕ) (s : List ℕ) (n b q : ℕ) → n ≤ q → counted w s n b q ≡ 0
 unfolding counted
 counted_beyond w s n b q h = simp (le-ltb q n h)
 

@@ -36,7 +36,7 @@ module _ {lead w n : ℕ} {s m firsts rows : List ℕ} (laid : Laid lead w s n m
   m_read : (p : ℕ) → p < n → at m p ≡ at (counts_of R) p
   m_read p h = m_laid p h ∙ sym (count_read lead w s p (omega arith))
 
-  first_laid : (p : ℕ) → p ≤ n → at firsts p ≡ first_at lead w s p
+  pub first_laid : (p : ℕ) → p ≤ n → at firsts p ≡ first_at lead w s p
   first_laid p h = firsts_at lead w s n firsts laid.firsts_are laid.n_most p h
 
   -- the table's room

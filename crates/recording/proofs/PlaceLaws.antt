@@ -12,17 +12,18 @@ use Rattle.cuts.proofs.BelowLaws.{sum_to-more}
 use Rattle.recording.specs.Form.{m_at, first_at}
 use Rattle.recording.proofs.SumLaws.{sum_to-grows, sum_to-part, sum_to-most}
 
--- the parts of the first p stations
-pub stations_le : (w p : ℕ) → w ≤ 9 → p ≤ 255 → (w + 12) * p ≤ 5355
-stations_le w p h k = mul-le-mul {n₁ = w + 12} {m₁ = p} {n₂ = 21} {m₂ = 255} (omega arith) k
+-- the parts of the first p stations, where p is at most a number
+pub stations_le : (w p most : ℕ) → w ≤ 9 → p ≤ most → (w + 12) * p ≤ 21 * most
+stations_le w p most h k = mul-le-mul {n₁ = w + 12} {m₁ = p} {n₂ = 21} {m₂ = most} (omega arith) k
 
 -- q counts of a stamp
-pub counts_le : (w q : ℕ) → w ≤ 9 → q ≤ 255 → w * q ≤ 2295
-counts_le w q h k = mul-le-mul {n₁ = w} {m₁ = q} {n₂ = 9} {m₂ = 255} h k
+pub counts_le : (w q most : ℕ) → w ≤ 9 → q ≤ most → w * q ≤ 9 * most
+counts_le w q most h k = mul-le-mul {n₁ = w} {m₁ = q} {n₂ = 9} {m₂ = most} h k
 
--- r records
-pub records_le : (w n r : ℕ) → w ≤ 9 → n ≤ 255 → r ≤ 65535 → (16 + w + w * n) * r ≤ 152041200
-records_le w n r h k l = mul-le-mul {n₁ = 16 + w + w * n} {m₁ = r} {n₂ = 2320} {m₂ = 65535} (omega (arith, counts_le w n h k)) l
+-- r records of stamps with n counts
+pub records_le : (w n r widest most : ℕ) → w ≤ 9 → n ≤ widest → r ≤ most → (16 + w + w * n) * r ≤ (25 + 9 * widest) * most
+records_le w n r widest most h k l =
+    mul-le-mul {n₁ = 16 + w + w * n} {m₁ = r} {n₂ = 25 + 9 * widest} {m₂ = most} (omega (arith, counts_le w n widest h k)) l
 
 -- a field that was looked at, of k bits where j are the most
 pub peeked_read : (s : List ℕ) (at at' k j r : ℕ) → r ≡ peeked s at k → at ≡ at' → k ≤ j → j ≤ 16 → (r ≡ field s at' k) × (r < 2 ^ j)

@@ -12,7 +12,7 @@ use Rattle.text.specs.Written.{front_of, line_of, Written}
 use Rattle.text.proofs.DecimalLaws.{numbers_std}
 use Rattle.text.proofs.TextLaws.{written_then, printed_whole, printed_none}
 
-length_line : (word xs : List ℕ) → length (line word xs) ≡ length word + length (numbers xs) + 1
+pub length_line : (word xs : List ℕ) → length (line word xs) ≡ length word + length (numbers xs) + 1
 unfolding line
 length_line word xs = rw (length-append (word ++ numbers xs) newline, length-append word (numbers xs)) refl
 

@@ -33,7 +33,7 @@ module _ {g : Given} {t : Tables} (laid : Laid g t) where
   unfolding first_given
   first_laid p h = (laid.firsts p (omega (arith, laid.most))).0
 
-  given_tables : Tabled R n t.counts t.firsts t.rows.now
+  pub given_tables : Tabled R n t.counts t.firsts t.rows.now
   given_tables = record {
     stations = stations_given g;
     most = laid.most;

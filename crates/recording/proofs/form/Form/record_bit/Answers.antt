@@ -12,4 +12,4 @@ returns c =
     let A = c.args in
     let e : 16 + A.self.width + A.self.width * A.n ≡ 4 + A.self.width + 12 + A.self.width * A.n = omega arith in
     rw (c.from.ensures, c.from-2.ensures, c.station_bit.ensures.0)
-    (ap (λ (k : ℕ). station_bit A.self.lead A.self.width A.n + k * A.r) e, omega (arith, records_le A.self.width A.n A.r (omega arith) (omega arith) (omega arith)))
+    (ap (λ (k : ℕ). station_bit A.self.lead A.self.width A.n + k * A.r) e, omega (arith, records_le A.self.width A.n A.r 255 65535 (omega arith) (omega arith) (omega arith)))

@@ -6,4 +6,4 @@ use Rattle.recording.proofs.form.Form.stamp_bit.Goals as goal
 pub returns : goal.returns
 returns c =
     let A = c.args in
-    rw c.from.ensures (omega (arith, c.record_bit.ensures.0), omega (arith, counts_le A.self.width A.q (omega arith) (omega arith)))
+    rw c.from.ensures (omega (arith, c.record_bit.ensures.0), omega (arith, counts_le A.self.width A.q 255 (omega arith) (omega arith)))

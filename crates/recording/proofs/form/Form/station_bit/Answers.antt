@@ -7,4 +7,4 @@ use Rattle.recording.proofs.form.Form.station_bit.Goals as goal
 
 pub returns : goal.returns
 unfolding station_bit
-returns c = rw c.from.ensures (refl, omega (arith, stations_le c.args.self.width c.args.p (omega arith) (omega arith)))
+returns c = rw c.from.ensures (refl, omega (arith, stations_le c.args.self.width c.args.p 255 (omega arith) (omega arith)))
