@@ -7,6 +7,7 @@ ghost use Rattle.recording.specs.Packed.{over, n_of};
 ghost use Rattle.recording.specs.Decoded.{RowsLaid};
 
 use crate::Form;
+use std::array;
 
 // The most records that a recording can have: eight stations with 511 events each, as many as nine bits can count.
 pub const RECORDS: usize = 4088;
@@ -54,11 +55,7 @@ impl<'a> Packed<'a> {
     pub fn counts(self, n: u8) -> [u16; 8]
         ensures { result ≡ tab 8 (over self.entry events_at n) }
     {
-        let mut counts = [0; 8];
-        for (p, count) in counts.iter_mut().enumerate() {
-            *count = self.events(n, p as u8);
-        }
-        counts
+        array::from_fn(|p| self.events(n, p as u8))
     }
 
     // The records before those of each station; the last is T.
@@ -90,11 +87,7 @@ impl<'a> Packed<'a> {
     pub fn starts(self, n: u8) -> [u16; 8]
         ensures { result ≡ tab 8 (over self.entry start_cell n) }
     {
-        let mut starts = [0; 8];
-        for (p, start) in starts.iter_mut().enumerate() {
-            *start = self.start(n, p as u8);
-        }
-        starts
+        array::from_fn(|p| self.start(n, p as u8))
     }
 
     // Count q of the stamp of record r, 0 beyond n.
